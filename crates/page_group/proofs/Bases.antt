@@ -1,5 +1,5 @@
 -- Reads of the base of a group.
-use Rattle.std.proofs.Common.{◌≡◌, ℕ, ◌<◌, ◌≤◌, List, [], false, Result, Ok, Err, OnOk, refl, sym, ◌∙◌, ap}
+use Rattle.std.proofs.Common.{◌≡◌, ℕ, ◌<◌, ◌≤◌, List, [], false, Result, Ok, Err, OnOk, sym, ◌∙◌, ap}
 use Rattle.page_io.specs.Store.{Pages, StoreState, page_of, overlaid, has_page, committed_with}
 use Rattle.page_io.specs.Views.{ReadsOnly}
 use Rattle.page_io.specs.declared.store.PageStore.{Ghosts}
@@ -25,18 +25,3 @@ read_base s first base reads idle changed staged end n bytes (Ok x) some within 
     ∙ sym (overlaid-none staged (page_of (committed_with (s.committed first) changed end)) n
     not_staged)
 read_base s first base reads idle changed staged end n bytes (Err e) some within not_changed not_staged honest found = tt
-
--- and what the group shows of it is what the base shows
-pub base_told : {S : Type 0} (s : Ghosts S) (first base : S) → ReadsOnly s first base
-    → (s.state first).staged ≡ [] → (changed staged : Pages) (end n : ℕ) (bytes : List ℕ)
-    → 1 ≤ n → n < end → has_page changed n ≡ false → has_page staged n ≡ false → s.honest first
-    → bytes ≡ overlaid staged (page_of (committed_with (s.committed first) changed end)) n
-    → bytes ≡ overlaid (s.state base).staged (page_of (s.committed base)) n
-base_told s first base reads idle changed staged end n bytes some within not_changed not_staged honest is =
-    let none = ap (λ (st : StoreState). st.staged) reads.same ∙ idle in
-    is
-    ∙ overlaid-none staged (page_of (committed_with (s.committed first) changed end)) n not_staged
-    ∙ sym (base_one (s.committed first) changed end n (page_of (s.committed first) n) some within
-    not_changed refl)
-    ∙ ap (λ (ps : Pages). page_of ps n) (sym (reads.stages_only.kept honest).committed)
-    ∙ ap (λ (ps : Pages). overlaid ps (page_of (s.committed base)) n) (sym none)

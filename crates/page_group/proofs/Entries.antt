@@ -1,11 +1,11 @@
 -- Laws of the entries of a map of pages by their own numbers.
-use Rattle.std.proofs.Common.{◌≡◌, ◌≢◌, inl, inr, ℕ, ◌+◌, ◌<◌, ◌≤◌, List, [], ◌∷◌, get_or, map, eqb, Bool, true, false, cond, Option, Some, None, Result, Ok, Err, OnOk, OnErr, refl, sym, ◌∙◌, ap, subst, arith}
+use Rattle.std.proofs.Common.{◌≡◌, ◌≢◌, inl, inr, ℕ, ◌+◌, ◌<◌, ◌≤◌, List, [], ◌∷◌, get_or, map, eqb, Bool, true, false, cond, Some, None, Result, Ok, Err, OnOk, OnErr, refl, sym, ◌∙◌, ap, subst, arith}
 use Rattle.std.proofs.lemmas.Bool.{cases_eq, cases_order, lt-ltb, le-ltb, eq-eqb, ne_eqb}
 use Rattle.std.specs.Global.{Box}
 use Rattle.std.specs.declared.cmp.Ordering.{Ordering}
 use Rattle.std.specs.declared.cmp.Ordering.TheVariants.{Less, Equal, Greater}
 use Rattle.std.specs.Ordering.{is_eq, nat_cmp, match_ordering}
-use Rattle.std.specs.Map.{keys_of, values_of, lookup, set_value}
+use Rattle.std.specs.Map.{keys_of, values_of, lookup}
 use Rattle.std.specs.BTreeMap.{insert_entry, is_at}
 use Rattle.page_io.specs.Page.{own_number}
 use Rattle.page_io.specs.Store.{Pages, with_page, overlaid, put_page, has_page, are_in_order}
@@ -13,7 +13,6 @@ use Rattle.page_io.specs.declared.page.Page.{Page}
 use Rattle.page_io.proofs.Overlays.{overlaid-none, has_page-skip, has_page-here, with_page-same}
 use Rattle.page_io.proofs.StagedPages.{order_put, put_page-before, put_page-over, put_page-behind, has_between, in_range}
 use Rattle.page_group.specs.Numbered.{pages_in, AreNumbered}
-use Rattle.page_group.specs.declared.changed_page.ChangedPage.{ChangedPage}
 use Rattle.page_group.proofs.Putting.{order_parts}
 
 -- ---- how two numbers compare
@@ -43,8 +42,8 @@ at_other n m other = elim (cases_order n m) [
 
 -- ---- numbers of entries
 
-module _ (entry : ℕ × Box ChangedPage) (entries : List (ℕ × Box ChangedPage)) where
-  first_own : AreNumbered (entry ∷ entries) → own_number entry.1.value.page.bytes ≡ entry.0
+module _ (entry : ℕ × Box Page) (entries : List (ℕ × Box Page)) where
+  first_own : AreNumbered (entry ∷ entries) → own_number entry.1.value.bytes ≡ entry.0
   first_own numbered = sym (ap (λ (xs : List ℕ). get_or xs 0 0) numbered)
 
   others_numbered : AreNumbered (entry ∷ entries) → AreNumbered entries
@@ -54,15 +53,15 @@ module _ (entry : ℕ × Box ChangedPage) (entries : List (ℕ × Box ChangedPag
       others [] = []
       others (x ∷ xs) = xs
 
-  joined : own_number entry.1.value.page.bytes ≡ entry.0 → AreNumbered entries
+  joined : own_number entry.1.value.bytes ≡ entry.0 → AreNumbered entries
       → AreNumbered (entry ∷ entries)
   joined own numbered = ap (λ (n : ℕ). n ∷ keys_of entries) (sym own)
-      ∙ ap (λ (ns : List ℕ). own_number entry.1.value.page.bytes ∷ ns) numbered
+      ∙ ap (λ (ns : List ℕ). own_number entry.1.value.bytes ∷ ns) numbered
 
 -- ---- an entry that is put in
 
-module _ (entry : ℕ × Box ChangedPage) (entries : List (ℕ × Box ChangedPage)) (k : ℕ) (one : Box ChangedPage) where
-  abbrev chosen : Ordering → List (ℕ × Box ChangedPage)
+module _ (entry : ℕ × Box Page) (entries : List (ℕ × Box Page)) (k : ℕ) (one : Box Page) where
+  abbrev chosen : Ordering → List (ℕ × Box Page)
   chosen order = match_ordering order ((k, one) ∷ entry ∷ entries) ((entry.0, one) ∷ entries)
       (entry ∷ insert_entry nat_cmp entries k one)
 
@@ -79,14 +78,14 @@ module _ (entry : ℕ × Box ChangedPage) (entries : List (ℕ × Box ChangedPag
   inserted_behind gt = ap chosen (cmp_greater k entry.0 gt)
 
 -- the pages are those with this one in the place of its number
-pub put_entry : (entries : List (ℕ × Box ChangedPage)) (k : ℕ) (one : Box ChangedPage) → AreNumbered entries
-    → own_number one.value.page.bytes ≡ k
-    → pages_in (insert_entry nat_cmp entries k one) ≡ put_page (pages_in entries) one.value.page.bytes
+pub put_entry : (entries : List (ℕ × Box Page)) (k : ℕ) (one : Box Page) → AreNumbered entries
+    → own_number one.value.bytes ≡ k
+    → pages_in (insert_entry nat_cmp entries k one) ≡ put_page (pages_in entries) one.value.bytes
 put_entry [] k one numbered own = refl
 put_entry (entry ∷ entries) k one numbered own =
     let first = first_own entry entries numbered in
-    let page = entry.1.value.page.bytes in
-    let new = one.value.page.bytes in
+    let page = entry.1.value.bytes in
+    let new = one.value.bytes in
     elim (cases_order k entry.0) [
       | inl same ↦ ap pages_in (inserted_over entry entries k one same)
           ∙ sym (put_page-over page (pages_in entries) new (own ∙ same ∙ sym first))
@@ -98,8 +97,8 @@ put_entry (entry ∷ entries) k one numbered own =
           ∙ sym (put_page-behind page (pages_in entries) new (omega (arith, own, first, above)))
     ]
 
-pub put_numbered : (entries : List (ℕ × Box ChangedPage)) (k : ℕ) (one : Box ChangedPage) → AreNumbered entries
-    → own_number one.value.page.bytes ≡ k → AreNumbered (insert_entry nat_cmp entries k one)
+pub put_numbered : (entries : List (ℕ × Box Page)) (k : ℕ) (one : Box Page) → AreNumbered entries
+    → own_number one.value.bytes ≡ k → AreNumbered (insert_entry nat_cmp entries k one)
 put_numbered [] k one numbered own = joined (k, one) [] own numbered
 put_numbered (entry ∷ entries) k one numbered own =
     let rest = others_numbered entry entries numbered in
@@ -116,14 +115,14 @@ put_numbered (entry ∷ entries) k one numbered own =
 -- ---- an entry that is looked up
 
 -- a page that is found is among them, and shown in its place
-pub found_page : (least high : ℕ) (entries : List (ℕ × Box ChangedPage)) (n : ℕ) (one : Box ChangedPage)
+pub found_page : (least high : ℕ) (entries : List (ℕ × Box Page)) (n : ℕ) (one : Box Page)
     → AreNumbered entries → are_in_order least high (pages_in entries) ≡ true
     → lookup (is_at (nat_cmp n)) entries ≡ Some one
     → (has_page (pages_in entries) n ≡ true)
-    × ((home : ℕ → List ℕ) → overlaid (pages_in entries) home n ≡ one.value.page.bytes)
+    × ((home : ℕ → List ℕ) → overlaid (pages_in entries) home n ≡ one.value.bytes)
 found_page least high [] n one numbered order found = cc
 found_page least high (entry ∷ entries) n one numbered order found =
-    let page = entry.1.value.page.bytes in
+    let page = entry.1.value.bytes in
     let later = lookup (is_at (nat_cmp n)) entries in
     let first = first_own entry entries numbered in
     let rest = order_parts least high page (pages_in entries) order in
@@ -142,7 +141,7 @@ found_page least high (entry ∷ entries) n one numbered order found =
           )) (omega arith) in (
             has_page-here (pages_in entries) page n own,
             λ home. overlaid-none (pages_in entries) (with_page home page) n none
-                ∙ with_page-same home page n own ∙ ap (λ (b : Box ChangedPage). b.value.page.bytes) is,
+                ∙ with_page-same home page n own ∙ ap (λ (b : Box Page). b.value.bytes) is,
           )
       | inr other ↦
           let more = found_page (own_number page + 1) high entries n one
@@ -154,7 +153,7 @@ found_page least high (entry ∷ entries) n one numbered order found =
     ]
 
 -- where none is found, none is among them
-pub absent_page : (entries : List (ℕ × Box ChangedPage)) (n : ℕ) → AreNumbered entries
+pub absent_page : (entries : List (ℕ × Box Page)) (n : ℕ) → AreNumbered entries
     → lookup (is_at (nat_cmp n)) entries ≡ None → has_page (pages_in entries) n ≡ false
 absent_page [] n numbered none = refl
 absent_page (entry ∷ entries) n numbered none =
@@ -165,71 +164,37 @@ absent_page (entry ∷ entries) n numbered none =
       | inl same ↦
           let both : Some entry.1 ≡ None = sym (ap read (at_same n entry.0 same)) ∙ none in cc
       | inr other ↦
-          has_page-skip (pages_in entries) entry.1.value.page.bytes n (λ same. other (sym same ∙ first))
+          has_page-skip (pages_in entries) entry.1.value.bytes n (λ same. other (sym same ∙ first))
           ∙ absent_page entries n (others_numbered entry entries numbered)
           (sym (ap read (at_other n entry.0 other)) ∙ none)
     ]
 
 -- ---- the values of a map
 
-abbrev pub bytes_in : List (Box ChangedPage) → Pages
-bytes_in boxes = map (λ (one : Box ChangedPage). one.value.page.bytes) boxes
+abbrev pub bytes_in : List (Box Page) → Pages
+bytes_in boxes = map (λ (one : Box Page). one.value.bytes) boxes
 
-pub bytes_in-values : (entries : List (ℕ × Box ChangedPage))
+pub bytes_in-values : (entries : List (ℕ × Box Page))
     → bytes_in (values_of entries) ≡ pages_in entries
 bytes_in-values [] = refl
 bytes_in-values (entry ∷ entries) =
-    ap (λ (ps : Pages). entry.1.value.page.bytes ∷ ps) (bytes_in-values entries)
+    ap (λ (ps : Pages). entry.1.value.bytes ∷ ps) (bytes_in-values entries)
 
 -- ---- a map in which one was put, or refused
 
-pub after_put : {T E : Type 0} (result : Result T E) (old new : List (ℕ × Box ChangedPage)) (k high : ℕ)
-    (one : Box ChangedPage) → AreNumbered old → are_in_order 1 high (pages_in old) ≡ true
-    → own_number one.value.page.bytes ≡ k → 1 ≤ k → k < high
+pub after_put : {T E : Type 0} (result : Result T E) (old new : List (ℕ × Box Page)) (k high : ℕ)
+    (one : Box Page) → AreNumbered old → are_in_order 1 high (pages_in old) ≡ true
+    → own_number one.value.bytes ≡ k → 1 ≤ k → k < high
     → OnOk result (new ≡ insert_entry nat_cmp old k one) → OnErr result (new ≡ old)
     → AreNumbered new × (are_in_order 1 high (pages_in new) ≡ true)
 after_put (Ok x) old new k high one numbered order own some below ok err = (
   subst AreNumbered (sym ok) (put_numbered old k one numbered own),
-  ap (λ (es : List (ℕ × Box ChangedPage)). are_in_order 1 high (pages_in es)) ok
+  ap (λ (es : List (ℕ × Box Page)). are_in_order 1 high (pages_in es)) ok
       ∙ ap (λ (ps : Pages). are_in_order 1 high ps) (put_entry old k one numbered own)
-      ∙ order_put 1 high (pages_in old) one.value.page.bytes order (omega (arith, own, some))
+      ∙ order_put 1 high (pages_in old) one.value.bytes order (omega (arith, own, some))
       (omega (arith, own, below)),
 )
 after_put (Err e) old new k high one numbered order own some below ok err = (
   subst AreNumbered (sym err) numbered,
-  ap (λ (es : List (ℕ × Box ChangedPage)). are_in_order 1 high (pages_in es)) err ∙ order,
-)
-
--- ---- a map in which what is known of one page was written
-
-module _ (entry : ℕ × Box ChangedPage) (entries written : List (ℕ × Box ChangedPage))
-    (later : Option (Box ChangedPage)) (one new : Box ChangedPage) where
-  written_step : (here : Bool) → (later ≡ Some one → pages_in written ≡ pages_in entries)
-      → cond here (Some entry.1) later ≡ Some one → new.value.page ≡ one.value.page
-      → pages_in (cond here ((entry.0, new) ∷ entries) (entry ∷ written))
-      ≡ pages_in (entry ∷ entries)
-  written_step true rest found same =
-      let is : entry.1 ≡ one = cc in
-      ap (λ (page : Page). page.bytes ∷ pages_in entries)
-      (same ∙ ap (λ (b : Box ChangedPage). b.value.page) (sym is))
-  written_step false rest found same =
-      ap (λ (ps : Pages). entry.1.value.page.bytes ∷ ps) (rest found)
-
--- the pages stay
-pub written_pages : (test : ℕ → Bool) (entries : List (ℕ × Box ChangedPage))
-    (one new : Box ChangedPage) → lookup test entries ≡ Some one
-    → new.value.page ≡ one.value.page
-    → pages_in (set_value test entries new) ≡ pages_in entries
-written_pages test [] one new found same = refl
-written_pages test (entry ∷ entries) one new found same =
-    written_step entry entries (set_value test entries new) (lookup test entries) one new
-    (test entry.0) (λ more. written_pages test entries one new more same) found same
-
-pub after_note : (old new : List (ℕ × Box ChangedPage)) (high : ℕ) → AreNumbered old
-    → are_in_order 1 high (pages_in old) ≡ true → keys_of new ≡ keys_of old
-    → pages_in new ≡ pages_in old
-    → AreNumbered new × (are_in_order 1 high (pages_in new) ≡ true)
-after_note old new high numbered order keys pages = (
-  keys ∙ numbered ∙ ap (λ (ps : Pages). map own_number ps) (sym pages),
-  ap (λ (ps : Pages). are_in_order 1 high ps) pages ∙ order,
+  ap (λ (es : List (ℕ × Box Page)). are_in_order 1 high (pages_in es)) err ∙ order,
 )

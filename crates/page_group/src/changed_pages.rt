@@ -1,13 +1,10 @@
 // Pages in memory by their own numbers.
-ghost use Rattle.std.specs.Prelude.{◌≡◌, ◌<◌, ◌≤◌, ◌^◌, ℕ, true, [], length, OnOk, IfOk, IfSome};
-ghost use Rattle.page_io.specs.BucketPages.{IsPageOf};
+ghost use Rattle.std.specs.Prelude.{◌≡◌, ◌<◌, ◌≤◌, ◌^◌, ℕ, true, [], length, OnOk, IfOk};
 ghost use Rattle.page_io.specs.Page.{own_number};
 ghost use Rattle.page_io.specs.Store.{bytes_of, overlaid, put_page, has_page, are_in_order};
-ghost use Rattle.page_io.specs.Versions.{model_version};
 ghost use Rattle.page_group.specs.Numbered.{pages_in, AreNumbered};
 
-use crate::changed_page::ChangedPage;
-use page_io::{Page, PageFault, PageStore, Version, finish};
+use page_io::{Page, PageFault, PageStore, finish};
 use std::alloc::{AllocError, Global};
 use std::collections::BTreeMap;
 
@@ -15,41 +12,32 @@ use std::collections::BTreeMap;
 /// whole pages about.
 #[derive(Drop)]
 pub struct ChangedPages {
-    pages: BTreeMap<u32, Box<ChangedPage>>,
+    pages: BTreeMap<u32, Box<Page>>,
     // The box of a page that another one took the place of.
-    spare: Option<Box<ChangedPage>>,
+    spare: Option<Box<Page>>,
     alloc: Global,
     ghost numbered: { AreNumbered pages.entries },
     ghost order: { are_in_order 1 (2 ^ 32) (pages_in pages.entries) ≡ true },
 }
 
-// A page in a box, with what is known of it: in the spare box, if there is one.
-fn boxed(
-    alloc: Global,
-    spare: Option<Box<ChangedPage>>,
-    page: &Page,
-    known: Option<Version>,
-) -> Result<Box<ChangedPage>, AllocError>
-    requires { IfSome known (λ version. IsPageOf (model_version version) page.now.bytes) }
-    ensures { IfOk result (λ changed. changed.value.page ≡ page.now) }
+// A copy of a page in a box: the spare one, if there is one.
+fn boxed(alloc: Global, spare: Option<Box<Page>>, page: &Page) -> Result<Box<Page>, AllocError>
+    ensures { IfOk result (λ copy. copy.value ≡ page.now) }
 {
-    let changed = ChangedPage { page: *page, known };
     match spare {
         Some(mut spare) => {
-            *spare = changed;
+            *spare = *page;
             Ok(spare)
         }
-        None => Ok(Box::new(alloc, changed)?),
+        None => Ok(Box::new(alloc, *page)?),
     }
 }
 
 impl ChangedPages {
-    ghost use Rattle.std.specs.Prelude.{◌↔◌, false, Ok, IfErr, IfSome, is_some};
+    ghost use Rattle.std.specs.Prelude.{◌↔◌, false, Ok, IfErr};
     ghost use Rattle.sect_dev.specs.Device.{LeavesOnly};
     ghost use Rattle.page_io.specs.Answers.{HasDeviceCause};
-    ghost use Rattle.page_io.specs.BucketPages.{IsPageOf};
     ghost use Rattle.page_io.specs.Store.{IsEither, committed_with};
-    ghost use Rattle.page_io.specs.Versions.{model_version};
     ghost use Rattle.page_io.specs.Views.{ReadsOnly, StagesOnly};
     ghost use Rattle.page_io.specs.declared.store.PageFault.TheVariants.{Device};
     ghost use Rattle.page_group.specs.Base.{MayBegin};
@@ -76,61 +64,40 @@ impl ChangedPages {
         self.pages.len()
     }
 
-    /// Writes page n to the buffer and answers what is known of it, if it is among them. Else the
-    /// buffer is unchanged.
-    pub fn find(&self, n: u32, page: &mut Page) -> Option<Option<Version>>
-        ensures found { is_some result ≡ has_page (changed_pages self.now) n }
+    /// Whether page n is among them. If it is, the buffer becomes that page, else it is unchanged.
+    pub fn find(&self, n: u32, page: &mut Page) -> bool
+        ensures found { result ≡ has_page (changed_pages self.now) n }
         ensures page { page.new.bytes ≡ overlaid (changed_pages self.now) (λ _. page.old.bytes) n }
-        ensures known { IfSome result (λ known. IfSome known
-            (λ version. IsPageOf (model_version version) page.new.bytes)) }
     {
         match self.pages.get(&n) {
             Some(found) => {
-                *page = found.page;
-                Some(found.known)
-            }
-            None => None,
-        }
-    }
-
-    /// Whether page n is among them. If it is this one, it is known from now on to be a bucket page
-    /// of the version.
-    pub fn note(&mut self, n: u32, page: &Page, version: Version) -> bool
-        requires { IsPageOf (model_version version) page.now.bytes }
-        ensures found { result ≡ has_page (changed_pages self.old) n }
-        ensures same { changed_pages self.new ≡ changed_pages self.old }
-    {
-        match self.pages.get_mut(&n) {
-            Some(found) => {
-                found.note(page, version);
+                *page = **found;
                 true
             }
             None => false,
         }
     }
 
-    // Puts a page in the place of its own number, with what is known of it.
-    fn put(&mut self, page: &Page, known: Option<Version>) -> Result<(), AllocError>
-        requires some { 1 ≤ own_number page.now.bytes }
-        requires known { IfSome known (λ version. IsPageOf (model_version version) page.now.bytes) }
+    // Puts a page in the place of its own number.
+    fn put(&mut self, page: &Page) -> Result<(), AllocError>
+        requires { 1 ≤ own_number page.now.bytes }
         ensures { OnOk result (changed_pages self.new
             ≡ put_page (changed_pages self.old) page.now.bytes) }
     {
-        let one = boxed(self.alloc, self.spare.take(), page, known)?;
+        let one = boxed(self.alloc, self.spare.take(), page)?;
         let replaced = self.pages.insert(page.own(), one)?;
         self.spare = replaced;
         Ok(())
     }
 
-    /// Puts pages in the places of their own numbers, with what is known of them where one of them is
-    /// the page that was noted. At `Err` some of them may have been put.
-    pub fn put_all(&mut self, pages: &[Page], noted: &ChangedPage) -> Result<(), AllocError>
+    /// Puts pages in the places of their own numbers. At `Err` some of them may have been put.
+    pub fn put_all(&mut self, pages: &[Page]) -> Result<(), AllocError>
         requires { are_in_order 1 (2 ^ 32) (bytes_of pages.now) ≡ true }
         ensures { OnOk result (changed_pages self.new
             ≡ put_all (changed_pages self.old) (bytes_of pages.now)) }
     {
         for page in pages {
-            self.put(page, noted.known_of(page))?;
+            self.put(page)?;
         }
         Ok(())
     }
@@ -143,8 +110,7 @@ impl ChangedPages {
         ensures answer { IsStagingAnswer S.reserved (S.state store.old) (S.state store.new) result }
         ensures staged { OnOk result ((S.state store.new).staged ≡ changed_pages self.now) }
     {
-        for changed in self.pages.values() {
-            let page = &changed.page;
+        for page in self.pages.values() {
             store.stage(page.own(), page)?;
         }
         Ok(())

@@ -2,7 +2,6 @@
 ghost use Rattle.std.specs.Prelude.{◌≡◌, ◌≤◌, ◌<◌, ◌^◌, true};
 ghost use Rattle.page_io.specs.Store.{bytes_of, are_in_order};
 
-use crate::changed_page::ChangedPage;
 use crate::changed_pages::ChangedPages;
 use page_io::StagedPages;
 
@@ -11,8 +10,6 @@ use page_io::StagedPages;
 pub struct Changes {
     pub(crate) changed: ChangedPages,
     pub(crate) staged: StagedPages,
-    // The staged page that was told last to be a bucket page.
-    pub(crate) noted: ChangedPage,
     pub(crate) end: u32,
     pub(crate) capacity: u32,
     pub(crate) usable: bool,

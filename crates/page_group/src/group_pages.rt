@@ -8,7 +8,6 @@ ghost use Rattle.page_group.specs.Group.{changed_count};
 mod page_store;
 
 use crate::Loan;
-use crate::changed_page::ChangedPage;
 use crate::changed_pages::ChangedPages;
 use crate::changes::Changes;
 use page_io::{PageFault, PageStore, StagedPages};
@@ -76,7 +75,6 @@ impl<'a, S: PageStore, L: Loan<S>> GroupPages<'a, S, L> {
         let held = Changes {
             changed: ChangedPages::new(alloc),
             staged: StagedPages::new(alloc),
-            noted: ChangedPage::unknown(),
             end: base.end(),
             capacity: base.capacity(),
             usable: true,

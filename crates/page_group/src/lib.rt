@@ -1,7 +1,6 @@
 //! A store of pages in memory, for a group of changes that another store commits at once.
 #![tactic(auto)]
 
-mod changed_page;
 mod changed_pages;
 mod changes;
 mod group_pages;

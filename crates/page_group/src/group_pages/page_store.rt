@@ -1,7 +1,6 @@
 // A group as a store of pages.
 use super::GroupPages;
 use crate::Loan;
-use crate::changed_page::ChangedPage;
 use page_io::{
     Page, PageFault, PageStore, Version, find_staged, is_among, next_staged, put_staged,
 };
@@ -63,33 +62,15 @@ impl<'a, S: PageStore, L: Loan<S>> PageStore for GroupPages<'a, S, L> {
             return Err(PageFault::Broken);
         }
         if find_staged(self.held.staged.as_slice(), n, page) {
-            return Ok(self.held.noted.known_of(page));
+            return Ok(None);
         }
         if n < 1 || self.held.end <= n {
             return Err(PageFault::Damaged);
         }
-        match self.held.changed.find(n, page) {
-            Some(known) => Ok(known),
-            None => self.base.read(n, page),
+        if self.held.changed.find(n, page) {
+            return Ok(None);
         }
-    }
-
-    // A page that is neither staged nor changed is the base's.
-    fn note(&mut self, n: u32, page: &Page, version: Version) {
-        let held = &mut self.held;
-        if is_among(held.staged.as_slice(), n) {
-            held.noted = ChangedPage {
-                page: *page,
-                known: Some(version),
-            };
-            return;
-        }
-        if n < 1 || held.end <= n {
-            return;
-        }
-        if !held.changed.note(n, page, version) {
-            self.base.note(n, page, version);
-        }
+        self.base.read(n, page)
     }
 
     fn stage(&mut self, n: u32, page: &Page) -> Result<(), PageFault> {
@@ -120,12 +101,7 @@ impl<'a, S: PageStore, L: Loan<S>> PageStore for GroupPages<'a, S, L> {
             return Err(PageFault::NoRoom);
         }
         held.usable = false;
-        if new_end < held.end
-            || held
-                .changed
-                .put_all(held.staged.as_slice(), &held.noted)
-                .is_err()
-        {
+        if new_end < held.end || held.changed.put_all(held.staged.as_slice()).is_err() {
             return Err(PageFault::Device);
         }
         held.staged.clear();

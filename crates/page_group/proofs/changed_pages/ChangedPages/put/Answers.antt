@@ -14,7 +14,7 @@ invariant_of-self-2 c =
     ∙ sym c.own.ensures.number in
     let after = after_put c.insert.result old.pages.entries c.insert.new.self.entries c.own.result
     4294967296 c.in_ok-one.one old.numbered old.order own
-    (omega (arith, c.requires.some, c.own.ensures.number)) c.own.type_inv
+    (omega (arith, c.requires, c.own.ensures.number)) c.own.type_inv
     c.insert.ensures.entries c.insert.ensures.err in
     record { numbered = after.0; order = after.1 }
 

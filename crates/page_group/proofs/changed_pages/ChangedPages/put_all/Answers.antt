@@ -9,8 +9,8 @@ use Rattle.page_group.specs.Changed.{changed_pages, put_all}
 use Rattle.page_group.proofs.Putting.{put_all-push}
 use Rattle.page_group.proofs.changed_pages.ChangedPages.put_all.Goals as goal
 
-pub put-requires-clause-some : goal.put-requires-clause-some
-put-requires-clause-some c =
+pub put-requires : goal.put-requires
+put-requires c =
     let pages = c.args.pages.now in
     let index = c.loop-page.page-index in
     let own : own_number (get_or (bytes_of pages) index [])

@@ -4,9 +4,9 @@ use Rattle.page_group.specs.Changed.{changed_pages}
 use Rattle.page_group.proofs.Entries.{bytes_in}
 use Rattle.page_group.proofs.changed_pages.ChangedPages.stage_into.Given as goal
 
-abbrev pub invariant-loop-changed : goal.invariant-loop-changed
-invariant-loop-changed g l = record {
+abbrev pub invariant-loop-page : goal.invariant-loop-page
+invariant-loop-page g l = record {
   stages : StagesOnly g.S.PageStore l.fn.store l.store;
-  staged : (g.S.PageStore.state l.store).staged ++ bytes_in l.changed-iterator
+  staged : (g.S.PageStore.state l.store).staged ++ bytes_in l.page-iterator
       ≡ changed_pages l.self;
 }

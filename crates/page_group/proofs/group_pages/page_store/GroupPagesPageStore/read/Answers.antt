@@ -1,4 +1,4 @@
-use Rattle.std.proofs.Common.{◌≡◌, List, false, is_some, sym, subst, ◌∙◌, ap, OnOk}
+use Rattle.std.proofs.Common.{◌≡◌, List, false, sym, subst, ◌∙◌, ap, OnOk}
 use Rattle.page_io.specs.Store.{bytes_of, page_of, overlaid, has_page, committed_with}
 use Rattle.page_io.specs.declared.page.Page.{Page}
 use Rattle.page_io.proofs.Overlays.{overlaid-staged, overlaid-none}
@@ -23,8 +23,8 @@ returns-then-find_staged-clause-found g c honest =
     (sym c.find_staged.ensures.found ∙ c.if-find_staged.true)
     ∙ ap (λ (ps : List Page). overlaid (bytes_of ps) home c.args.n) c.as_slice.ensures)
 
-pub returns-in-Some-clause-found : goal.returns-in-Some-clause-found
-returns-in-Some-clause-found g c honest =
+pub returns-then-find-clause-found : goal.returns-then-find-clause-found
+returns-then-find-clause-found g c honest =
     let s = g.S.PageStore in
     let held = c.self.inside.held in
     let base = s.committed c.self.inside.first.value in
@@ -37,11 +37,11 @@ returns-in-Some-clause-found g c honest =
     c.self.view_is
     (changed_one base (changed_pages held.changed) held.end c.args.n _
     (λ _. c.find_staged.new.page.bytes) c.if-n-lt1.false c.if-self-n.false
-    (sym c.find.ensures.found ∙ ap is_some c.in-Some.is) c.find.ensures.page
+    (sym c.find.ensures.found ∙ c.if-find.true) c.find.ensures.page
     ∙ sym (overlaid-none (bytes_of held.staged.items) home c.args.n none))
 
-pub returns-in-None-clause-found : goal.returns-in-None-clause-found
-returns-in-None-clause-found g c honest =
+pub returns-clause-found : goal.returns-clause-found
+returns-clause-found g c honest =
     let s = g.S.PageStore in
     let held = c.self.inside.held in
     let over = c.self.invariant.2 in
@@ -53,6 +53,6 @@ returns-in-None-clause-found g c honest =
     c.self.view_is
     (read_base s c.self.inside.first.value c.self.inside.base.now over.reads over.ready.idle
     (changed_pages held.changed) (bytes_of held.staged.items) held.end c.args.n _ c.read.result
-    c.if-n-lt1.false c.if-self-n.false (sym c.find.ensures.found ∙ ap is_some c.in-None.is) none
+    c.if-n-lt1.false c.if-self-n.false (sym c.find.ensures.found ∙ c.if-find.false) none
     (subst (λ (group : Over g.row.S.Denot). s.honest group.first) (sym c.self.view_is) honest)
     c.read.ensures.found)
