@@ -1,6 +1,5 @@
 -- A page that is staged is one of the version.
-use Rattle.std.proofs.Common.{◌≡◌, ℕ, List, [], ◌∷◌, ◌++◌, Option, Some, None, sym, subst, arith}
-use Rattle.std.specs.Prelude.{IfSome}
+use Rattle.std.proofs.Common.{◌≡◌, ℕ, List, [], ◌∷◌, ◌++◌, sym, subst, arith}
 use Rattle.std.specs.List.{AllByRecursion, remove}
 use Rattle.dbm_model.specs.Bounds.{Version}
 use Rattle.dbm_model.specs.Pairs.{Key}
@@ -11,11 +10,6 @@ use Rattle.page_model.proofs.Chains.{AllByRecursion-append}
 use Rattle.page_io.specs.BucketPages.{IsBucketPage, IsPageOf, page_records}
 use Rattle.slot_page.specs.Contents.{HasRecords, IsAbsent}
 use Rattle.bucket_chain.proofs.TakenOut.{all_remove}
-
-pub some_then : {T : Type 0} {P Q : T → Type 0} (found : Option T) → IfSome found P
-    → ((x : T) → P x → Q x) → IfSome found Q
-some_then (Some x) p then = then x p
-some_then None p then = tt
 
 of_these : (version : Version) (old new : List ℕ) (records : List Record)
     → HasRecords old new records → AllByRecursion (IsOf version) records → IsPageOf version new

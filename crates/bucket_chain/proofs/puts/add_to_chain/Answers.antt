@@ -1,4 +1,5 @@
 use Rattle.std.proofs.Common.{◌≡◌, ℕ, [], ◌∷◌, ◌++◌, List, true, false, OnOk, refl, sym, subst, ◌∙◌, ap, arith}
+use Rattle.std.proofs.lemmas.Option.{IfSome_then}
 use Rattle.std.proofs.lemmas.Result.{IfOk-from_err}
 use Rattle.dbm_model.specs.Bounds.{Version}
 use Rattle.page_model.specs.Pages.{Body, Record, Bucket, OverflowPage}
@@ -28,7 +29,7 @@ use Rattle.bucket_chain.proofs.Added.{says_nothing, added_to, added_behind}
 use Rattle.bucket_chain.proofs.SpelledPages.{added_body, fresh_body}
 use Rattle.bucket_chain.proofs.StagedPages.{on_ok, if_ok, with_own, known_same, IsRewrittenAlone, AreRewritten, rewritten_alone, rewritten_next, both_rewritten}
 use Rattle.bucket_chain.proofs.PutLemmas.{put_here, put_last, no_room, new_apart, apart_alone}
-use Rattle.bucket_chain.proofs.KnownPages.{some_then, page_with, empty_page, none_there}
+use Rattle.bucket_chain.proofs.KnownPages.{page_with, empty_page, none_there}
 use Rattle.bucket_chain.proofs.LinkedPages.{link_linked, linked_body}
 use Rattle.bucket_chain.proofs.Refusals.{walk_puts, take_puts, stage_puts, stage_puts_last, walk_has_room, few_same, few_then, few_both, few_more}
 use Rattle.bucket_chain.proofs.puts.add_to_chain.Given.{Over}
@@ -93,7 +94,7 @@ stage_page-requires-3-clause-own g c =
 
 pub stage_page-requires-clause-known : goal.stage_page-requires-clause-known
 stage_page-requires-clause-known g c =
-    some_then _ c.version_beside-known.ensures (λ told is.
+    IfSome_then _ c.version_beside-known.ensures (λ told is.
     page_with (model_version told) c.find_spot.new.page.bytes _ (as_record c.args.added)
     (subst (λ v. IsPageOf (model_version v) c.find_spot.new.page.bytes) (sym is.0)
     c.in_ok-spot.ensures.page.link.page)
