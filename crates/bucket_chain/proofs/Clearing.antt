@@ -22,8 +22,8 @@ use Rattle.bucket_chain.proofs.Walks.{leaf_of, AreNumbered, one_next, read_as}
 use Rattle.bucket_chain.proofs.KeyWalks.{none_later}
 use Rattle.bucket_chain.proofs.Rewriting.{free_kept, not_there, not_here}
 use Rattle.content_pages.proofs.PageCounts.{times_both}
-use Rattle.bucket_chain.proofs.Givings.{times_given}
 use Rattle.bucket_chain.proofs.OverflowGivings.{AreGivenIn, first_or, numbers_are, given_split, still_free}
+use Rattle.content_pages.proofs.ContentGivings.{times_given}
 
 -- all pages were given
 abbrev pub all_given : (old mid : ℕ → Body) (state state' : FreeState) (first : ℕ)

@@ -1,54 +1,18 @@
 -- Pages that are given to the free list, one after the other.
-use Rattle.std.proofs.Common.{◌≡◌, inl, inr, ℕ, ◌+◌, ◌≤◌, ◌==◌, cond, List, [], ◌∷◌, ◌++◌, Option, Some, None, false, append-nil, reverse, sum_by, refl, sym, ap, ◌∙◌, subst, arith}
+use Rattle.std.proofs.Common.{◌≡◌, inl, inr, ℕ, ◌+◌, ◌≤◌, cond, List, [], ◌∷◌, ◌++◌, Option, Some, None, false, append-nil, refl, sym, ap, ◌∙◌, subst, arith}
 use Rattle.std.proofs.lemmas.Bool.{cases_eq}
-use Rattle.std.proofs.lemmas.List.{reverse-append, length-append}
-use Rattle.std.proofs.lemmas.List.Sums.{sum_by-append}
-use Rattle.std.proofs.lemmas.List.Sorted.{IsPermutation-reverse, sum_by-IsPermutation}
+use Rattle.std.proofs.lemmas.List.{length-append}
 use Rattle.page_model.specs.Pages.{Body, FreePage}
 use Rattle.page_model.specs.PageBodies.{first_of}
 use Rattle.page_model.specs.Space.{Space, give, is_page, times_of}
-use Rattle.page_model.proofs.Spaces.{times_head, times_tail}
+use Rattle.page_model.proofs.Spaces.{times_head}
 use Rattle.free_pages.specs.declared.free_state.FreeState.{FreeState}
 use Rattle.free_pages.specs.FreeList.{IsFreeList, IsApart}
 use Rattle.free_pages.specs.Giving.{IsFree, AreInFront, AreGiven}
 use Rattle.content_pages.specs.Contents.{IsContentPage, AreNamed, IsContentGiven}
 use Rattle.content_pages.proofs.PageCounts.{times_both, times_other}
 use Rattle.bucket_chain.specs.AnyFile.{AreToldPages, IsNoContent, AreGivenBack}
-
--- they stay in front while none of them is changed
-pub in_front_kept : (at at' : ℕ → Body) (old_head new_head : ℕ) (pages : List ℕ)
-    → ((n : ℕ) → 1 ≤ times_of n pages → at' n ≡ at n) → AreInFront at old_head pages new_head
-    → AreInFront at' old_head pages new_head
-in_front_kept at at' old_head new_head [] same are = are
-in_front_kept at at' old_head new_head (n ∷ pages) same are = (
-  same n (omega (arith, times_head n pages)) ∙ are.0,
-  in_front_kept at at' n new_head pages
-      (λ m stands. same m (omega (arith, stands, times_tail m n pages))) are.1,
-)
-
--- and one more is put in front of them
-in_front_more : (at : ℕ → Body) (old_head new_head : ℕ) (pages : List ℕ) (n : ℕ)
-    → AreInFront at old_head pages new_head → at n ≡ FreePage new_head
-    → AreInFront at old_head (pages ++ n ∷ []) n
-in_front_more at old_head new_head [] n are free =
-    (subst (λ (k : ℕ). at n ≡ FreePage k) are free, refl)
-in_front_more at old_head new_head (m ∷ pages) n are free =
-    (are.0, in_front_more at m new_head pages n are.1 free)
-
--- as many of each page in the free list and among those given
-pub times_given : (n : ℕ) (pages : List ℕ) (s : Space)
-    → times_of n (give pages s).free ≡ times_of n pages + times_of n s.free
-times_given n pages s =
-    let one : ℕ → ℕ = λ m. cond (m == n) 1 0 in
-    sum_by-append one (reverse pages) s.free
-    ∙ ap (λ (k : ℕ). k + sum_by one s.free)
-    (sum_by-IsPermutation one pages (reverse pages) (IsPermutation-reverse pages))
-
--- one more in front
-give_more : (pages : List ℕ) (n : ℕ) (s : Space)
-    → give (n ∷ []) (give pages s) ≡ give (pages ++ n ∷ []) s
-give_more pages n s = ap (λ (free : List ℕ). record s { free = free })
-    (sym (ap (λ (ns : List ℕ). ns ++ s.free) (reverse-append pages (n ∷ []))))
+use Rattle.content_pages.proofs.ContentGivings.{in_front_kept, in_front_more, times_given, give_more}
 
 -- none was given
 pub given_none : (at : ℕ → Body) (state : FreeState) → AreGiven at at state state []

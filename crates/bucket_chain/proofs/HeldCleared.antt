@@ -9,8 +9,8 @@ use Rattle.free_pages.specs.FreeList.{IsApart}
 use Rattle.content_pages.proofs.PageCounts.{times_both}
 use Rattle.bucket_chain.specs.Changes.{IsPlaced, IsCleared, AreHeld, store_in}
 use Rattle.bucket_chain.proofs.ChainContents.{contents_kept}
-use Rattle.bucket_chain.proofs.Givings.{times_given}
 use Rattle.bucket_chain.proofs.PutLemmas.{one_or_none}
+use Rattle.content_pages.proofs.ContentGivings.{times_given}
 
 pub held_cleared : (version : Version) (old new : ℕ → Body) (state state' : FreeState) (head n : ℕ)
     (chain : Chain) (s : Space) (entries : List Entry) → IsPlaced version old state head chain s

@@ -14,9 +14,9 @@ use Rattle.free_pages.specs.Giving.{AreGiven}
 use Rattle.content_pages.proofs.PageCounts.{times_both}
 use Rattle.bucket_chain.specs.Changes.{IsPlaced, BecomesPlaced, remove_from}
 use Rattle.bucket_chain.proofs.ChainContents.{contents_each, contents_all, contents_kept}
-use Rattle.bucket_chain.proofs.Givings.{times_given}
 use Rattle.bucket_chain.proofs.PutLemmas.{one_or_none}
 use Rattle.bucket_chain.proofs.Rewriting.{AreSaid, leaves_read, free_kept, said_kept}
+use Rattle.content_pages.proofs.ContentGivings.{times_given}
 
 -- nothing is taken out
 pub unchanged : (version : Version) (at at' : ℕ → Body) (state : FreeState) (head : ℕ)

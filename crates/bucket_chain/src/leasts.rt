@@ -6,8 +6,8 @@ ghost use Rattle.dbm_model.specs.Pairs.{Key, Pair};
 ghost use Rattle.dbm_model.specs.Steps.{IsAhead};
 ghost use Rattle.page_model.specs.Pages.{Record};
 ghost use Rattle.page_model.specs.Chain.{pairs_in};
-ghost use Rattle.page_io.specs.Answers.{HasDeviceCause};
-ghost use Rattle.page_io.specs.Views.{body_at, ReadsOnly};
+ghost use Rattle.page_io.specs.Calls.{IsReadingCall};
+ghost use Rattle.page_io.specs.Views.{body_at};
 ghost use Rattle.page_io.specs.Versions.{model_version};
 ghost use Rattle.page_io.specs.declared.store.PageFault.TheVariants.{Damaged};
 ghost use Rattle.page_io.specs.BucketPages.{IsBucketPage, page_records};
@@ -160,8 +160,7 @@ fn least_with_overflow<S: PageStore>(
     version: Version,
 ) -> Result<Option<usize>, PageFault>
     requires { IfSome best (IsRankedAt page.old.bytes) }
-    ensures reads { ReadsOnly S.PageStore store.old store.new }
-    ensures cause { HasDeviceCause (S.faults store.old) (S.faults store.new) result }
+    ensures reads { IsReadingCall S.PageStore store.old store.new result }
     ensures answer { IsWalkAnswer (S.state store.old) result }
     ensures ahead { (records : List Record)
         → IsLeast (map record_pair records) (pass_from last.entry) page.old.bytes (slot_of best)
@@ -212,8 +211,7 @@ pub fn least_behind<S: PageStore>(
     ranks: &mut PageRanks,
     version: Version,
 ) -> Result<Option<usize>, PageFault>
-    ensures reads { ReadsOnly S.PageStore store.old store.new }
-    ensures cause { HasDeviceCause (S.faults store.old) (S.faults store.new) result }
+    ensures reads { IsReadingCall S.PageStore store.old store.new result }
     ensures answer { IsWalkAnswer (S.state store.old) result }
 
     // On any bytes a key is answered that is behind `last`.

@@ -2,7 +2,7 @@
 
 ghost use Rattle.std.specs.Prelude.{◌≡◌, ◌⊎◌, ◌<◌, ◌≤◌, ℕ, List, Some, IfOk, IfErr, IfSome, OnOk, IsErrOf};
 ghost use Rattle.page_model.specs.Pages.{Record};
-ghost use Rattle.page_io.specs.Answers.{HasDeviceCause};
+ghost use Rattle.page_io.specs.Calls.{IsReadingCall};
 ghost use Rattle.page_io.specs.Store.{IsKnown};
 ghost use Rattle.page_io.specs.Views.{visible_page, body_at, ReadsOnly};
 ghost use Rattle.page_io.specs.Versions.{model_version};
@@ -71,8 +71,7 @@ fn read_bucket_page<S: PageStore>(
     page: &mut Page,
     version: Version,
 ) -> Result<(), PageFault>
-    ensures reads { ReadsOnly S.PageStore store.old store.new }
-    ensures cause { HasDeviceCause (S.faults store.old) (S.faults store.new) result }
+    ensures reads { IsReadingCall S.PageStore store.old store.new result }
     ensures answer { IsWalkAnswer (S.state store.old) result }
     ensures known { OnOk result (IsKnown (S.state store.old) n) }
     ensures bucket { OnOk result (IsPageOf (model_version version) page.new.bytes) }
@@ -100,8 +99,7 @@ pub fn read_link<S: PageStore>(
     version: Version,
 ) -> Result<u32, PageFault>
     requires { (kind ≡ 3) ⊎ (kind ≡ 4) }
-    ensures reads { ReadsOnly S.PageStore store.old store.new }
-    ensures cause { HasDeviceCause (S.faults store.old) (S.faults store.new) result }
+    ensures reads { IsReadingCall S.PageStore store.old store.new result }
     ensures answer { IsWalkAnswer (S.state store.old) result }
     ensures known { OnOk result ((1 ≤ n) × IsKnown (S.state store.old) n) }
     ensures link { IfOk result (λ next.

@@ -3,9 +3,9 @@
 ghost use Rattle.std.specs.Prelude.{◌≡◌, ◌++◌, ◌<◌, All, length, map, IfOk, OnOk, IsErrOf};
 ghost use Rattle.std.specs.List.{HoldsAt};
 ghost use Rattle.page_model.specs.Chain.{entries_in, record_of};
+ghost use Rattle.page_io.specs.Calls.{IsReadingCall};
 ghost use Rattle.page_io.specs.Versions.{model_version};
-ghost use Rattle.page_io.specs.Answers.{HasDeviceCause};
-ghost use Rattle.page_io.specs.Views.{body_at, ReadsOnly};
+ghost use Rattle.page_io.specs.Views.{body_at};
 ghost use Rattle.page_io.specs.declared.store.PageFault.TheVariants.{Damaged};
 ghost use Rattle.page_io.specs.BucketPages.{IsBucketPage, page_records};
 ghost use Rattle.bucket_chain.specs.Chains.{ForEachChain};
@@ -54,8 +54,7 @@ pub fn load_all<S: PageStore>(
     head: u32,
     version: Version,
 ) -> Result<Vec<Pair>, PageFault>
-    ensures reads { ReadsOnly S.PageStore store.old store.new }
-    ensures cause { HasDeviceCause (S.faults store.old) (S.faults store.new) result }
+    ensures reads { IsReadingCall S.PageStore store.old store.new result }
     ensures answer { IsLoadAnswer (S.state store.old) result }
     ensures small { IfOk result (λ pairs.
         All (λ pair. IsSmall (model_version version) (record_as pair)) pairs.items) }

@@ -1,8 +1,8 @@
 //! Looking a key up.
 
 ghost use Rattle.std.specs.Prelude.{IfOk, IfSome, IsErrOf};
-ghost use Rattle.page_io.specs.Answers.{HasDeviceCause};
-ghost use Rattle.page_io.specs.Views.{body_at, ReadsOnly};
+ghost use Rattle.page_io.specs.Calls.{IsReadingCall};
+ghost use Rattle.page_io.specs.Views.{body_at};
 ghost use Rattle.page_io.specs.Versions.{model_version};
 ghost use Rattle.page_io.specs.declared.store.PageFault.TheVariants.{Damaged};
 ghost use Rattle.bucket_chain.specs.Chains.{ForEachChain};
@@ -26,8 +26,7 @@ pub fn lookup<S: PageStore>(
     page: &mut Page,
     version: Version,
 ) -> Result<Option<Place>, PageFault>
-    ensures reads { ReadsOnly S.PageStore store.old store.new }
-    ensures cause { HasDeviceCause (S.faults store.old) (S.faults store.new) result }
+    ensures reads { IsReadingCall S.PageStore store.old store.new result }
     ensures answer { IsWalkAnswer (S.state store.old) result }
     ensures held { IfOk result (λ place.
         IfSome place (λ at. IsPageOf (model_version version) page.new.bytes

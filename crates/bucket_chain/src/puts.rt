@@ -4,13 +4,13 @@ ghost use Rattle.std.specs.Prelude.{◌≡◌, ◌+◌, ◌≤◌, ◌<◌, ◌�
 ghost use Rattle.dbm_model.specs.Pairs.{IsAllowed, is_far};
 ghost use Rattle.page_model.specs.PairLists.{times};
 ghost use Rattle.page_model.specs.Chain.{Chain, Entry, content_pages, pairs_in, pages_in, has_room, record_of};
-ghost use Rattle.page_io.specs.Answers.{HasDeviceCause};
+ghost use Rattle.page_io.specs.Calls.{IsReadingCall, IsStagingCall};
 ghost use Rattle.page_io.specs.BucketPages.{IsBucketPage, page_records};
 ghost use Rattle.page_io.specs.Store.{IsKnown};
 ghost use Rattle.page_io.specs.Versions.{model_version};
-ghost use Rattle.page_io.specs.Views.{body_at, StagesOnly, ReadsOnly, MayEnd};
+ghost use Rattle.page_io.specs.Views.{body_at, MayEnd};
 ghost use Rattle.page_io.specs.declared.store.PageFault.TheVariants.{NoRoom, Damaged};
-ghost use Rattle.free_pages.specs.FreeList.{HasEnds};
+ghost use Rattle.free_pages.specs.FreeList.{KeepsEnds};
 ghost use Rattle.slot_page.specs.Contents.{IsAbsent};
 ghost use Rattle.bucket_chain.specs.WalkAnswers.{IsWalkAnswer};
 ghost use Rattle.bucket_chain.specs.Chains.{IsChainAt};
@@ -56,8 +56,7 @@ fn find_spot<S: PageStore>(
     page: &mut Page,
     version: Version,
 ) -> Result<Spot, PageFault>
-    ensures reads { ReadsOnly S.PageStore store.old store.new }
-    ensures cause { HasDeviceCause (S.faults store.old) (S.faults store.new) result }
+    ensures reads { IsReadingCall S.PageStore store.old store.new result }
     ensures answer { IsWalkAnswer (S.state store.old) result }
     ensures known { IfOk result (λ spot. (1 ≤ spot.page) × IsKnown (S.state store.old) spot.page) }
     ensures page { IfOk result (λ spot.
@@ -108,13 +107,10 @@ fn add_to_chain<S: PageStore>(
     version: Version,
 ) -> Result<(), PageFault>
     requires { IsSmall (model_version version) (as_record added) }
-    ensures stages { StagesOnly S.PageStore store.old store.new }
+    ensures stages { IsStagingCall S.PageStore store.old store.new result }
     ensures few { length (S.state store.new).staged ≤ length (S.state store.old).staged + 2 }
-    ensures cause { HasDeviceCause (S.faults store.old) (S.faults store.new) result }
     ensures answer { IsPutAnswer S.reserved 1 (S.state store.old) space.old result }
-    ensures ends { HasEnds space.old → HasEnds space.new }
-    ensures may_end { MayEnd (S.state store.old) space.old.file_end
-        → OnOk result (MayEnd (S.state store.new) space.new.file_end) }
+    ensures keeps { KeepsEnds (S.state store.old) (S.state store.new) space.old space.new result }
     ensures added { S.honest store.old
         → OnOk result (IsAdded (body_at S.PageStore store.old) (body_at S.PageStore store.new)
         (MayEnd (S.state store.old) space.old.file_end) space.old space.new head
@@ -156,12 +152,9 @@ pub fn put_record<S: PageStore>(
     version: Version,
 ) -> Result<(), PageFault>
     requires { IsSmall (model_version version) (record_as pair.now) }
-    ensures stages { StagesOnly S.PageStore store.old store.new }
-    ensures cause { HasDeviceCause (S.faults store.old) (S.faults store.new) result }
+    ensures stages { IsStagingCall S.PageStore store.old store.new result }
     ensures answer { IsPutAnswer S.reserved 1 (S.state store.old) space.old result }
-    ensures ends { HasEnds space.old → HasEnds space.new }
-    ensures may_end { MayEnd (S.state store.old) space.old.file_end
-        → OnOk result (MayEnd (S.state store.new) space.new.file_end) }
+    ensures keeps { KeepsEnds (S.state store.old) (S.state store.new) space.old space.new result }
 
     // On any file the record is added to the first page that it fits, else to a page of its own
     // behind the last.
@@ -209,15 +202,12 @@ pub fn put<S: PageStore>(
     version: Version,
 ) -> Result<(), PageFault>
     requires { IsAllowed (model_version version) (key.now, content.now) }
-    ensures stages { StagesOnly S.PageStore store.old store.new }
+    ensures stages { IsStagingCall S.PageStore store.old store.new result }
     ensures few { length (S.state store.new).staged ≤ length (S.state store.old).staged + 2
         + content_pages (key.now, content.now) }
-    ensures cause { HasDeviceCause (S.faults store.old) (S.faults store.new) result }
     ensures answer { IsPutAnswer S.reserved (1 + content_pages (key.now, content.now))
         (S.state store.old) space.old result }
-    ensures ends { HasEnds space.old → HasEnds space.new }
-    ensures may_end { MayEnd (S.state store.old) space.old.file_end
-        → OnOk result (MayEnd (S.state store.new) space.new.file_end) }
+    ensures keeps { KeepsEnds (S.state store.old) (S.state store.new) space.old space.new result }
 
     // On any file a far content is put into pages of its own, and the record is added to the first
     // page that it fits, else to one behind the last.

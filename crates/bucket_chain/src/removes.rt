@@ -7,11 +7,11 @@ ghost use Rattle.page_model.specs.PairLists.{times};
 ghost use Rattle.page_model.specs.Pages.{Record};
 ghost use Rattle.page_model.specs.Chain.{Chain, pairs_in};
 ghost use Rattle.page_model.specs.Space.{Space};
-ghost use Rattle.page_io.specs.Answers.{HasDeviceCause};
+ghost use Rattle.page_io.specs.Calls.{IsReadingCall, IsStagingCall};
 ghost use Rattle.page_io.specs.Versions.{model_version};
-ghost use Rattle.page_io.specs.Views.{body_at, StagesOnly, ReadsOnly, MayEnd};
+ghost use Rattle.page_io.specs.Views.{body_at, MayEnd};
 ghost use Rattle.page_io.specs.declared.store.PageFault.TheVariants.{Damaged};
-ghost use Rattle.free_pages.specs.FreeList.{HasEnds, IsFreeList, IsApart};
+ghost use Rattle.free_pages.specs.FreeList.{HasEnds, IsFreeList, IsApart, KeepsEnds};
 ghost use Rattle.free_pages.specs.Giving.{AreGiven};
 ghost use Rattle.bucket_chain.specs.WalkAnswers.{IsWalkAnswer};
 ghost use Rattle.bucket_chain.specs.Chains.{IsChainAt};
@@ -50,8 +50,7 @@ fn find_hit<S: PageStore>(
     page: &mut Page,
     version: Version,
 ) -> Result<Option<Hit>, PageFault>
-    ensures reads { ReadsOnly S.PageStore store.old store.new }
-    ensures cause { HasDeviceCause (S.faults store.old) (S.faults store.new) result }
+    ensures reads { IsReadingCall S.PageStore store.old store.new result }
     ensures answer { IsWalkAnswer (S.state store.old) result }
     ensures held { IfOk result (λ found. IfSome found
         (IsHeldHit (model_version version) (S.state store.old) key.now page.new.bytes)) }
@@ -102,9 +101,8 @@ fn relink<S: PageStore>(
     version: Version,
 ) -> Result<(), PageFault>
     requires { IsLinkKind kind }
-    ensures stages { StagesOnly S.PageStore store.old store.new }
+    ensures stages { IsStagingCall S.PageStore store.old store.new result }
     ensures few { length (S.state store.new).staged ≤ length (S.state store.old).staged + 1 }
-    ensures cause { HasDeviceCause (S.faults store.old) (S.faults store.new) result }
     ensures answer { IsRemoveAnswer S.reserved 0 (S.state store.old) result }
     ensures may_end { (end : ℕ) → MayEnd (S.state store.old) end
         → OnOk result (MayEnd (S.state store.new) end) }
@@ -136,9 +134,8 @@ fn unlink<S: PageStore>(
 ) -> Result<bool, PageFault>
     requires { (key : Key)
         × IsHeldHit (model_version version) (S.state store.old) key page.old.bytes hit }
-    ensures stages { StagesOnly S.PageStore store.old store.new }
+    ensures stages { IsStagingCall S.PageStore store.old store.new result }
     ensures few { length (S.state store.new).staged ≤ length (S.state store.old).staged + 1 }
-    ensures cause { HasDeviceCause (S.faults store.old) (S.faults store.new) result }
     ensures answer { IsRemoveAnswer S.reserved 0 (S.state store.old) result }
     ensures may_end { (end : ℕ) → MayEnd (S.state store.old) end
         → OnOk result (MayEnd (S.state store.new) end) }
@@ -172,10 +169,9 @@ fn give_back<S: PageStore>(
     page: &mut Page,
 ) -> Result<(), PageFault>
     requires { 1 ≤ hit.page }
-    ensures stages { StagesOnly S.PageStore store.old store.new }
+    ensures stages { IsStagingCall S.PageStore store.old store.new result }
     ensures few { length (S.state store.new).staged
         ≤ length (S.state store.old).staged + pages_told hit.content + 1 }
-    ensures cause { HasDeviceCause (S.faults store.old) (S.faults store.new) result }
     ensures answer { IsRemoveAnswer S.reserved (pages_told hit.content) (S.state store.old) result }
     ensures end { space.new.file_end ≡ space.old.file_end }
     ensures ends { HasEnds space.old → HasEnds space.new }
@@ -220,10 +216,9 @@ pub fn remove<S: PageStore>(
     page: &mut Page,
     version: Version,
 ) -> Result<bool, PageFault>
-    ensures stages { StagesOnly S.PageStore store.old store.new }
+    ensures stages { IsStagingCall S.PageStore store.old store.new result }
     ensures few { length (S.state store.new).staged
         ≤ length (S.state store.old).staged + 1 + pages_for (model_version version) }
-    ensures cause { HasDeviceCause (S.faults store.old) (S.faults store.new) result }
     ensures answer { IsRemoveAnswer S.reserved (pages_for (model_version version))
         (S.state store.old) result }
     ensures walked { S.honest store.old
@@ -232,9 +227,7 @@ pub fn remove<S: PageStore>(
         was ≡ false → (S.state store.new ≡ S.state store.old) × (space.new ≡ space.old)) }
     ensures err { OnErr result (space.new ≡ space.old) }
     ensures end { space.new.file_end ≡ space.old.file_end }
-    ensures ends { HasEnds space.old → HasEnds space.new }
-    ensures may_end { MayEnd (S.state store.old) space.old.file_end
-        → OnOk result (MayEnd (S.state store.new) space.new.file_end) }
+    ensures keeps { KeepsEnds (S.state store.old) (S.state store.new) space.old space.new result }
 
     // On any file the key's record is taken out of its page, or that page out of the chain.
     ensures taken_out { S.honest store.old

@@ -4,11 +4,11 @@ ghost use Rattle.std.specs.Prelude.{◌≡◌, ◌+◌, ◌<◌, ◌∷◌, [], 
 ghost use Rattle.page_model.specs.Chain.{Chain, Entry, Leaf, numbers, entries_in, pages_in, record_of};
 ghost use Rattle.page_model.specs.PageBodies.{first_of};
 ghost use Rattle.page_model.specs.Space.{Space};
-ghost use Rattle.page_io.specs.Answers.{HasDeviceCause};
+ghost use Rattle.page_io.specs.Calls.{IsStagingCall};
 ghost use Rattle.page_io.specs.Versions.{model_version};
-ghost use Rattle.page_io.specs.Views.{body_at, StagesOnly, MayEnd};
+ghost use Rattle.page_io.specs.Views.{body_at, MayEnd};
 ghost use Rattle.page_io.specs.declared.store.PageFault.TheVariants.{NoRoom, Damaged};
-ghost use Rattle.free_pages.specs.FreeList.{HasEnds};
+ghost use Rattle.free_pages.specs.FreeList.{HasEnds, KeepsEnds};
 ghost use Rattle.bucket_chain.specs.Pairs.{record_as, IsSmall};
 ghost use Rattle.bucket_chain.specs.Walks.{IsReadToEnd};
 ghost use Rattle.bucket_chain.specs.AnyFile.{IsEmptied, AreAdded, AreStored};
@@ -31,8 +31,7 @@ fn give_overflow<S: PageStore>(
     first: u32,
     version: Version,
 ) -> Result<(), PageFault>
-    ensures stages { StagesOnly S.PageStore store.old store.new }
-    ensures cause { HasDeviceCause (S.faults store.old) (S.faults store.new) result }
+    ensures stages { IsStagingCall S.PageStore store.old store.new result }
     ensures answer { IsStoreAnswer (S.state store.old) result }
     ensures room { IsErrOf result NoRoom → ⊥ }
     ensures ends { HasEnds space.old → HasEnds space.new }
@@ -66,8 +65,7 @@ fn clear<S: PageStore>(
     head: u32,
     version: Version,
 ) -> Result<(), PageFault>
-    ensures stages { StagesOnly S.PageStore store.old store.new }
-    ensures cause { HasDeviceCause (S.faults store.old) (S.faults store.new) result }
+    ensures stages { IsStagingCall S.PageStore store.old store.new result }
     ensures answer { IsStoreAnswer (S.state store.old) result }
     ensures room { IsErrOf result NoRoom → ⊥ }
     ensures walked { S.honest store.old
@@ -76,9 +74,7 @@ fn clear<S: PageStore>(
         → OnOk result (IsEmptied (body_at S.PageStore store.old) (body_at S.PageStore store.new)
         space.old space.new head) }
     ensures end { space.new.file_end ≡ space.old.file_end }
-    ensures ends { HasEnds space.old → HasEnds space.new }
-    ensures may_end { MayEnd (S.state store.old) space.old.file_end
-        → OnOk result (MayEnd (S.state store.new) space.new.file_end) }
+    ensures keeps { KeepsEnds (S.state store.old) (S.state store.new) space.old space.new result }
     ensures exact { ForEachPlaced (model_version version) S.PageStore store.old space.old head
         (λ chain s. OnOk result (IsCleared (model_version version) (body_at S.PageStore store.old)
         (body_at S.PageStore store.new) space.new head (store_in (chain, s) []))) }
@@ -100,8 +96,7 @@ fn put_all<S: PageStore>(
     version: Version,
 ) -> Result<(), PageFault>
     requires { All (λ pair. IsSmall (model_version version) (record_as pair)) pairs.now }
-    ensures stages { StagesOnly S.PageStore store.old store.new }
-    ensures cause { HasDeviceCause (S.faults store.old) (S.faults store.new) result }
+    ensures stages { IsStagingCall S.PageStore store.old store.new result }
     ensures answer { IsStoreAnswer (S.state store.old) result }
     ensures room { pairs.now ≡ [] → IsErrOf result NoRoom → ⊥ }
     ensures no_room { S.honest store.old → IsErrOf result NoRoom
@@ -110,9 +105,7 @@ fn put_all<S: PageStore>(
         → OnOk result (AreAdded (body_at S.PageStore store.old) (body_at S.PageStore store.new)
         (MayEnd (S.state store.old) space.old.file_end) space.old space.new (λ r. head)
         (map record_as pairs.now)) }
-    ensures ends { HasEnds space.old → HasEnds space.new }
-    ensures may_end { MayEnd (S.state store.old) space.old.file_end
-        → OnOk result (MayEnd (S.state store.new) space.new.file_end) }
+    ensures keeps { KeepsEnds (S.state store.old) (S.state store.new) space.old space.new result }
     ensures exact { ForEachPlaced (model_version version) S.PageStore store.old space.old head
         (λ chain s. (entries : List Entry) → map record_of entries ≡ map record_as pairs.now
         → AreHeld (model_version version) (body_at S.PageStore store.old) (pages_in chain) s entries
@@ -144,17 +137,14 @@ pub fn store_all<S: PageStore>(
     version: Version,
 ) -> Result<(), PageFault>
     requires { All (λ pair. IsSmall (model_version version) (record_as pair)) pairs.now }
-    ensures stages { StagesOnly S.PageStore store.old store.new }
-    ensures cause { HasDeviceCause (S.faults store.old) (S.faults store.new) result }
+    ensures stages { IsStagingCall S.PageStore store.old store.new result }
     ensures answer { IsStoreAnswer (S.state store.old) result }
     ensures room { pairs.now ≡ [] → IsErrOf result NoRoom → ⊥ }
     ensures no_room { S.honest store.old → IsErrOf result NoRoom
         → (S.state store.old).capacity < space.old.file_end + length pairs.now }
     ensures walked { S.honest store.old
         → OnOk result (IsReadToEnd (body_at S.PageStore store.old) head) }
-    ensures ends { HasEnds space.old → HasEnds space.new }
-    ensures may_end { MayEnd (S.state store.old) space.old.file_end
-        → OnOk result (MayEnd (S.state store.new) space.new.file_end) }
+    ensures keeps { KeepsEnds (S.state store.old) (S.state store.new) space.old space.new result }
 
     // On any file the chain is emptied, and the records are added in order.
     ensures stored { S.honest store.old

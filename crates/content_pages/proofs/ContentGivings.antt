@@ -89,7 +89,7 @@ led_split at first n (m ∷ passed) (k ∷ pages) led begins numbered named le =
 -- ---- pages in front of the free ones
 
 -- they stay in front while none of them is changed
-in_front_kept : (at at' : ℕ → Body) (old_head new_head : ℕ) (pages : List ℕ)
+pub in_front_kept : (at at' : ℕ → Body) (old_head new_head : ℕ) (pages : List ℕ)
     → ((n : ℕ) → 1 ≤ times_of n pages → at' n ≡ at n) → AreInFront at old_head pages new_head
     → AreInFront at' old_head pages new_head
 in_front_kept at at' old_head new_head [] same are = are
@@ -100,7 +100,7 @@ in_front_kept at at' old_head new_head (n ∷ pages) same are = (
 )
 
 -- and one more is put in front of them
-in_front_more : (at : ℕ → Body) (old_head new_head : ℕ) (pages : List ℕ) (n : ℕ)
+pub in_front_more : (at : ℕ → Body) (old_head new_head : ℕ) (pages : List ℕ) (n : ℕ)
     → AreInFront at old_head pages new_head → at n ≡ FreePage new_head
     → AreInFront at old_head (pages ++ n ∷ []) n
 in_front_more at old_head new_head [] n are free =
@@ -109,7 +109,7 @@ in_front_more at old_head new_head (m ∷ pages) n are free =
     (are.0, in_front_more at m new_head pages n are.1 free)
 
 -- as many of each page in the free list and among those given
-times_given : (n : ℕ) (pages : List ℕ) (s : Space)
+pub times_given : (n : ℕ) (pages : List ℕ) (s : Space)
     → times_of n (give pages s).free ≡ times_of n pages + times_of n s.free
 times_given n pages s =
     let one : ℕ → ℕ = λ m. cond (m == n) 1 0 in
@@ -118,7 +118,7 @@ times_given n pages s =
     (sum_by-IsPermutation one pages (reverse pages) (IsPermutation-reverse pages))
 
 -- one more in front
-give_more : (pages : List ℕ) (n : ℕ) (s : Space)
+pub give_more : (pages : List ℕ) (n : ℕ) (s : Space)
     → give (n ∷ []) (give pages s) ≡ give (pages ++ n ∷ []) s
 give_more pages n s = ap (λ (free : List ℕ). record s { free = free })
     (sym (ap (λ (ns : List ℕ). ns ++ s.free) (reverse-append pages (n ∷ []))))

@@ -20,7 +20,7 @@ AreHeld at first (n ∷ pages) content end = (first ≡ n) × (1 ≤ n)
     × AreHeld at next pages (drop 2032 content) end)
 
 -- one page more
-held_more : (at : ℕ → Body) (first n next : ℕ) (pages content part : List ℕ)
+pub held_more : (at : ℕ → Body) (first n next : ℕ) (pages content part : List ℕ)
     → AreHeld at first pages content n → length content ≡ 2032 * length pages → 1 ≤ n
     → length part ≤ 2032 → at n ≡ ContentPage next (filled part)
     → AreHeld at first (pages ++ n ∷ []) (content ++ part) next
@@ -52,7 +52,7 @@ held_more at first n next (m ∷ pages) content part held long some le says =
       ),
     )
 
-held_begins : (at : ℕ → Body) (first : ℕ) (pages content : List ℕ)
+pub held_begins : (at : ℕ → Body) (first : ℕ) (pages content : List ℕ)
     → AreHeld at first pages content 0 → first ≡ first_of pages
 held_begins at first [] content held = held.0
 held_begins at first (n ∷ pages) content held = held.0
@@ -63,7 +63,7 @@ held_numbered at first end [] content held = tt
 held_numbered at first end (n ∷ pages) content held =
     (held.1, held_numbered at held.2.0 end pages (drop 2032 content) held.2.2)
 
-held_read : (at : ℕ → Body) (first : ℕ) (pages content : List ℕ) → AreHeld at first pages content 0
+pub held_read : (at : ℕ → Body) (first : ℕ) (pages content : List ℕ) → AreHeld at first pages content 0
     → AreRead at (content_bodies pages content)
 held_read at first [] content held = tt
 held_read at first (n ∷ pages) content held = (

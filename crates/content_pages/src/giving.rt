@@ -3,8 +3,8 @@
 ghost use Rattle.std.specs.Prelude.{◌≡◌, ◌+◌, ◌<◌, ◌≤◌, ℕ, List, length, OnOk, OnErr, IsErrOf};
 ghost use Rattle.page_model.specs.Chain.{pages_long};
 ghost use Rattle.page_model.specs.Space.{Space};
-ghost use Rattle.page_io.specs.Answers.{HasDeviceCause};
-ghost use Rattle.page_io.specs.Views.{body_at, StagesOnly, MayEnd};
+ghost use Rattle.page_io.specs.Calls.{IsStagingCall};
+ghost use Rattle.page_io.specs.Views.{body_at, MayEnd};
 ghost use Rattle.page_io.specs.declared.store.PageFault.TheVariants.{Damaged};
 ghost use Rattle.free_pages.specs.FreeList.{HasEnds, IsFreeList, IsApart};
 ghost use Rattle.free_pages.specs.Giving.{AreGiven};
@@ -27,10 +27,9 @@ pub fn give_content<S: PageStore>(
     long: u16,
     page: &mut Page,
 ) -> Result<(), PageFault>
-    ensures stages { StagesOnly S.PageStore store.old store.new }
+    ensures stages { IsStagingCall S.PageStore store.old store.new result }
     ensures few { length (S.state store.new).staged
         ≤ length (S.state store.old).staged + pages_long long }
-    ensures cause { HasDeviceCause (S.faults store.old) (S.faults store.new) result }
     ensures answer { IsGivesAnswer S.reserved (pages_long long) (S.state store.old) result }
     ensures err { OnErr result (space.new ≡ space.old) }
     ensures end { space.new.file_end ≡ space.old.file_end }

@@ -8,11 +8,11 @@ ghost use Rattle.page_model.specs.Pages.{ContentPage};
 ghost use Rattle.page_model.specs.Reading.{body_of};
 ghost use Rattle.page_model.specs.Rewrites.{AreRewritten};
 ghost use Rattle.page_model.specs.Space.{Space, next_pages, after_takes};
+ghost use Rattle.page_io.specs.Calls.{IsReadingCall, IsStagingCall};
 ghost use Rattle.page_io.specs.Page.{own_number};
-ghost use Rattle.page_io.specs.Answers.{HasDeviceCause};
-ghost use Rattle.page_io.specs.Views.{body_at, ReadsOnly, StagesOnly, MayEnd};
+ghost use Rattle.page_io.specs.Views.{body_at, StagesOnly, MayEnd};
 ghost use Rattle.page_io.specs.declared.store.PageFault.TheVariants.{NoRoom, Damaged};
-ghost use Rattle.free_pages.specs.FreeList.{state_of, HasEnds, IsFreeList, IsApart};
+ghost use Rattle.free_pages.specs.FreeList.{state_of, HasEnds, IsFreeList, IsApart, KeepsEnds};
 ghost use Rattle.free_pages.specs.Giving.{AreTaken};
 ghost use Rattle.content_pages.specs.Answers.{IsTakesAnswer, IsStagesAnswer, IsPutsAnswer};
 ghost use Rattle.content_pages.specs.Contents.{IsContentPut, IsPutAt};
@@ -34,8 +34,7 @@ fn take_pages<S: PageStore>(
     count: usize,
 ) -> Result<Pages, PageFault>
     requires { count ≤ MOST_PAGES }
-    ensures reads { ReadsOnly S.PageStore store.old store.new }
-    ensures cause { HasDeviceCause (S.faults store.old) (S.faults store.new) result }
+    ensures reads { IsReadingCall S.PageStore store.old store.new result }
     ensures answer { IsTakesAnswer count (S.state store.old) space.old result }
     ensures many { IfOk result (λ pages. (length pages.items ≡ count)
         × AllByRecursion (λ n. 1 ≤ n) pages.items × AllPairs (λ n m. n ≢ m) pages.items) }
@@ -116,18 +115,15 @@ pub fn put_content<S: PageStore>(
     content: &[u8],
 ) -> Result<u32, PageFault>
     requires { length content.now < 65536 }
-    ensures stages { StagesOnly S.PageStore store.old store.new }
+    ensures stages { IsStagingCall S.PageStore store.old store.new result }
     ensures few { length (S.state store.new).staged
         ≤ length (S.state store.old).staged + pages_long (length content.now) }
-    ensures cause { HasDeviceCause (S.faults store.old) (S.faults store.new) result }
     ensures answer { IsPutsAnswer S.reserved (pages_long (length content.now)) (S.state store.old)
         space.old result }
     ensures number { IfOk result (λ first. 1 ≤ length content.now → 1 ≤ first) }
-    ensures ends { HasEnds space.old → HasEnds space.new }
+    ensures keeps { KeepsEnds (S.state store.old) (S.state store.new) space.old space.new result }
     ensures grown { OnOk result (space.new.file_end
         ≤ space.old.file_end + pages_long (length content.now)) }
-    ensures may_end { MayEnd (S.state store.old) space.old.file_end
-        → OnOk result (MayEnd (S.state store.new) space.new.file_end) }
     ensures put { S.honest store.old → IfOk result (λ first. (pages : List ℕ)
         × (first ≡ first_of pages)
         × IsContentPut (body_at S.PageStore store.old) (body_at S.PageStore store.new) space.old

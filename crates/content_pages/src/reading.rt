@@ -3,9 +3,9 @@
 ghost use Rattle.std.specs.Prelude.{◌≡◌, ◌+◌, ◌++◌, ◌≤◌, ◌<◌, ℕ, List, length, vec_len, vec_capacity, take as first_part, drop, slice_index, OnOk, IfOk, IsErrOf};
 ghost use Rattle.page_model.specs.PageBodies.{filled};
 ghost use Rattle.page_model.specs.Pages.{ContentPage};
-ghost use Rattle.page_io.specs.Answers.{HasDeviceCause};
+ghost use Rattle.page_io.specs.Calls.{IsReadingCall};
 ghost use Rattle.page_io.specs.Store.{IsKnown};
-ghost use Rattle.page_io.specs.Views.{body_at, ReadsOnly};
+ghost use Rattle.page_io.specs.Views.{body_at};
 ghost use Rattle.page_io.specs.declared.store.PageFault.TheVariants.{Memory, Damaged};
 ghost use Rattle.content_pages.specs.Answers.{IsWalkAnswer, IsLoadAnswer};
 ghost use Rattle.content_pages.specs.Contents.{IsContentPage, IsContentAt};
@@ -16,8 +16,7 @@ use page_io::{PAGE_LEN, Page, PageFault, PageStore};
 /// Reads page `n` as a content page, and answers the next one, 0 for none. Damaged is answered
 /// where it isn't page `n` or no content page.
 pub fn read_page<S: PageStore>(store: &mut S, n: u32, page: &mut Page) -> Result<u32, PageFault>
-    ensures reads { ReadsOnly S.PageStore store.old store.new }
-    ensures cause { HasDeviceCause (S.faults store.old) (S.faults store.new) result }
+    ensures reads { IsReadingCall S.PageStore store.old store.new result }
     ensures answer { IsWalkAnswer (S.state store.old) result }
     ensures known { OnOk result ((1 ≤ n) × IsKnown (S.state store.old) n) }
     ensures bytes { OnOk result ((k : ℕ) → slice_index page.new.bytes k < 256) }
@@ -44,8 +43,7 @@ pub fn check_part<S: PageStore>(
     page: &mut Page,
 ) -> Result<u32, PageFault>
     requires { long ≤ PER_PAGE }
-    ensures reads { ReadsOnly S.PageStore store.old store.new }
-    ensures cause { HasDeviceCause (S.faults store.old) (S.faults store.new) result }
+    ensures reads { IsReadingCall S.PageStore store.old store.new result }
     ensures answer { IsWalkAnswer (S.state store.old) result }
     ensures known { OnOk result ((1 ≤ n) × IsKnown (S.state store.old) n) }
     ensures bytes { OnOk result ((k : ℕ) → slice_index page.new.bytes k < 256) }
@@ -75,8 +73,7 @@ fn read_part<S: PageStore>(
 ) -> Result<u32, PageFault>
     requires part { long ≤ PER_PAGE }
     requires room { vec_len content.old + long ≤ vec_capacity content.old }
-    ensures reads { ReadsOnly S.PageStore store.old store.new }
-    ensures cause { HasDeviceCause (S.faults store.old) (S.faults store.new) result }
+    ensures reads { IsReadingCall S.PageStore store.old store.new result }
     ensures answer { IsWalkAnswer (S.state store.old) result }
     ensures capacity { vec_capacity content.old ≤ vec_capacity content.new }
     ensures longer { OnOk result (length content.new.items ≡ length content.old.items + long) }
@@ -105,8 +102,7 @@ pub fn read_content<S: PageStore>(
     long: u16,
     content: &mut Vec<u8>,
 ) -> Result<(), PageFault>
-    ensures reads { ReadsOnly S.PageStore store.old store.new }
-    ensures cause { HasDeviceCause (S.faults store.old) (S.faults store.new) result }
+    ensures reads { IsReadingCall S.PageStore store.old store.new result }
     ensures answer { IsLoadAnswer (S.state store.old) result }
 
     // Where memory lacks, no page was read.

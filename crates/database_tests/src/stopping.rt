@@ -4,7 +4,7 @@
 use crate::devices::has_pages;
 use dbm_file::{Database, Db, Fault, OpenHow, Stat};
 use page_io::{Page, PageStore};
-use sect_dev::{Failing, Fuse, MemDev, Plan};
+use sect_dev::{Failing, Fuse, MemDev, Schedule};
 use std::alloc::Global;
 use std::test::Fail;
 use test_databases::databases::closed;
@@ -35,12 +35,12 @@ fn open_stopping(
 }
 
 /// The device in memory below one whose calls fail.
-fn below<P: Plan + Drop>(dev: Failing<MemDev, P>) -> MemDev {
+fn below<P: Schedule + Drop>(dev: Failing<MemDev, P>) -> MemDev {
     dev.into_inner()
 }
 
 /// The device in memory below a database that is closed, with what the closing answers.
-fn closed_below<P: Plan + Drop>(db: Db<Failing<MemDev, P>>) -> (MemDev, Result<(), Fault>) {
+fn closed_below<P: Schedule + Drop>(db: Db<Failing<MemDev, P>>) -> (MemDev, Result<(), Fault>) {
     let (dev, answer) = db.close();
     (below(dev), answer)
 }

@@ -39,7 +39,7 @@ pub fn backup<T: Files<File = File>, P: Progress>(
         return Err(Stop::from(Fault::Exists));
     }
     let aside = Aside::make(rt, &to.aside)?;
-    let done = copied(rt, alloc, &source, aside, &to, progress);
+    let done = copy_aside(rt, alloc, &source, aside, &to, progress);
     if done.is_err() {
         give_up(rt, &to.aside);
     }
@@ -68,7 +68,7 @@ fn open_source<T: Files<File = File>>(rt: &T, path: &str) -> Result<File, Stop>
 }
 
 /// Copies the source into the file beside the copy's name, and gives it that name.
-fn copied<T: Files<File = File>, P: Progress>(
+fn copy_aside<T: Files<File = File>, P: Progress>(
     rt: &T,
     alloc: Global,
     source: &File,

@@ -40,7 +40,7 @@ pub fn build<T: Files<File = File>>(
     let names = names_of(alloc, file)?;
     is_replaceable(rt, &names.file)?;
     let aside = Aside::make(rt, &names.aside)?;
-    match started(rt, alloc, file, &names, aside, limit) {
+    match start(rt, alloc, file, &names, aside, limit) {
         Ok((old, new, made, mode)) => Ok(Building {
             old,
             new,
@@ -73,7 +73,7 @@ fn is_replaceable<T: Files<File = File>>(rt: &T, path: &str) -> Result<(), Stop>
 
 /// The two tables, the file of the new one, and the mode of the old one's. The old one is opened
 /// once this process has the file beside it: from then on no other takes its place.
-fn started<T: Files<File = File>>(
+fn start<T: Files<File = File>>(
     rt: &T,
     alloc: Global,
     file: &str,
@@ -129,7 +129,7 @@ impl Building {
         ensures { Ends filled result }
     {
         let names = self.names;
-        let done = match closed(self.new, filled) {
+        let done = match close_after(self.new, filled) {
             Ok(()) => put(rt, alloc, &names, &self.made, self.mode, progress),
             Err(stop) => Err(stop),
         };
@@ -142,7 +142,7 @@ impl Building {
 
 /// Closes the new table after what was done with it, and with it its lock ends. Of two failures the
 /// earlier one is told.
-fn closed(new: Db<FileDev>, filled: Result<(), EngineFault>) -> Result<(), Stop>
+fn close_after(new: Db<FileDev>, filled: Result<(), EngineFault>) -> Result<(), Stop>
     ensures { Ends filled result }
 {
     let (dev, closing) = new.close();

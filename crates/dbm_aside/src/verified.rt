@@ -53,7 +53,7 @@ impl Verified {
         if !is_under(rt, made, path)? {
             return Err(Stop::from(taken()));
         }
-        let mut db = opened(alloc, dev)?;
+        let mut db = open_table(alloc, dev)?;
         match look_through(alloc, &mut db, progress) {
             Ok(pairs) => Ok(Verified { db, pairs }),
             Err(fault) => Err(Stop {
@@ -94,7 +94,7 @@ impl Verified {
 }
 
 /// Opens a table for reading, on a device.
-fn opened(alloc: Global, dev: FileDev) -> Result<Db<FileDev>, Stop>
+fn open_table(alloc: Global, dev: FileDev) -> Result<Db<FileDev>, Stop>
     ensures { IfErr result (λ stop. IsOfDatabase stop.fault) }
 {
     let how = OpenHow {

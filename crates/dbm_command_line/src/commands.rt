@@ -50,28 +50,28 @@ Pairs are printed in hexadecimal but for --text, so there is no -x.";
 pub fn command<'a>(alloc: Global) -> Result<Command<'a>, AllocError>
     ensures { IfOk result (λ c. IsApp c command_line) }
 {
-    let command = added(program(alloc), create_command(alloc));
-    let command = added(command, store_command(alloc));
-    let command = added(command, insert_command(alloc));
-    let command = added(command, fetch_command(alloc));
-    let command = added(command, delete_command(alloc));
-    let command = added(command, list_command(alloc));
-    let command = added(command, dump_command(alloc));
-    let command = added(command, load_command(alloc));
-    let command = added(command, stat_command(alloc));
-    let command = added(command, verify_command(alloc));
-    let command = added(command, upgrade_command(alloc));
-    let command = added(command, resize_command(alloc));
-    let command = added(command, backup_command(alloc));
-    let command = added(command, salvage_command(alloc));
-    let command = added(command, script_command(alloc));
-    let command = added(command, rehearse_command(alloc));
-    added(command, Ok(faults_command(alloc)))
+    let command = with_subcommand(program(alloc), create_command(alloc));
+    let command = with_subcommand(command, store_command(alloc));
+    let command = with_subcommand(command, insert_command(alloc));
+    let command = with_subcommand(command, fetch_command(alloc));
+    let command = with_subcommand(command, delete_command(alloc));
+    let command = with_subcommand(command, list_command(alloc));
+    let command = with_subcommand(command, dump_command(alloc));
+    let command = with_subcommand(command, load_command(alloc));
+    let command = with_subcommand(command, stat_command(alloc));
+    let command = with_subcommand(command, verify_command(alloc));
+    let command = with_subcommand(command, upgrade_command(alloc));
+    let command = with_subcommand(command, resize_command(alloc));
+    let command = with_subcommand(command, backup_command(alloc));
+    let command = with_subcommand(command, salvage_command(alloc));
+    let command = with_subcommand(command, script_command(alloc));
+    let command = with_subcommand(command, rehearse_command(alloc));
+    with_subcommand(command, Ok(faults_command(alloc)))
 }
 
 /// The command with one more subcommand, if both could be made. An early return that drops a
 /// command is long to prove, and these are the only ones.
-fn added<'a>(
+fn with_subcommand<'a>(
     command: Result<Command<'a>, AllocError>,
     line: Result<Command<'a>, AllocError>,
 ) -> Result<Command<'a>, AllocError>

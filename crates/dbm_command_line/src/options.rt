@@ -14,7 +14,7 @@ use crate::plan::{Plan, Request, Source, Spelling, Version};
 use clap::ArgMatches;
 
 /// What the words ask for.
-pub fn requested<'a>(matches: &ArgMatches<'a>) -> Result<Request<'a>, WordsError>
+pub fn read_request<'a>(matches: &ArgMatches<'a>) -> Result<Request<'a>, WordsError>
     ensures plan { IfOk result (λ r. Names (subcommand_rows_of matches.now) r.plan) }
     ensures verbose { IfOk result (λ r. IsVerbose (rows_of (found_of matches.now)) r.verbose) }
     ensures wait { IfOk result (λ r. IsWait (rows_of (found_of matches.now)) r.wait) }

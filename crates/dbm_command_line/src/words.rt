@@ -5,7 +5,7 @@ ghost use Rattle.dbm_command_line.specs.Asking.{AreTaken, AreToWait, AreVerbose,
 ghost use Rattle.dbm_command_line.specs.Sorting.{IsOfChoice, IsSorted};
 
 use crate::commands::command;
-use crate::options::requested;
+use crate::options::read_request;
 use crate::plan::Request;
 use clap::Error as Refusal;
 use clap::error::ErrorKind;
@@ -74,13 +74,13 @@ pub fn read_words<'a>(alloc: Global, words: &'a [&'a str]) -> Result<Request<'a>
         return Err(WordsError::Memory);
     };
     match command.try_get_matches_from(words) {
-        Ok(matches) => requested(&matches),
-        Err(refusal) => Err(sorted(refusal)),
+        Ok(matches) => read_request(&matches),
+        Err(refusal) => Err(words_error(refusal)),
     }
 }
 
 /// Tells help and want of memory from a mistake.
-fn sorted(refusal: Refusal) -> WordsError
+fn words_error(refusal: Refusal) -> WordsError
     ensures sorted { IsSorted result }
     ensures source { (result ≢ WordsError.ScriptSource) × (result ≢ WordsError.RehearsalSource)
         × (result ≢ WordsError.VersionSource) × (result ≢ WordsError.ReadSource)

@@ -19,7 +19,10 @@ use std::io::Write;
 
 /// Ends a command that wrote: the output is flushed, also after a failure. Of two failures the
 /// earlier one is told.
-pub fn flushed<W: Write>(done: Result<(), EngineFault>, output: &mut W) -> Result<Outcome, Failure>
+pub fn flush_after<W: Write>(
+    done: Result<(), EngineFault>,
+    output: &mut W,
+) -> Result<Outcome, Failure>
     ensures failed { IfErr done (λ fault. result ≡ Err (Failure.Fault fault)) }
     ensures done { OnOk done ((result ≡ Ok Outcome.Done)
         ⊎ (result ≡ Err (Failure.Fault EngineFault.Write))) }
@@ -33,7 +36,7 @@ pub fn flushed<W: Write>(done: Result<(), EngineFault>, output: &mut W) -> Resul
 
 /// Closes a database after what was done with it, and gives its device back. Of two failures the
 /// earlier one is told.
-pub fn closed<D: SectorDev>(
+pub fn close_after<D: SectorDev>(
     db: Db<D>,
     done: Result<Outcome, Failure>,
 ) -> (D, Result<Outcome, Failure>)

@@ -8,7 +8,7 @@ mod printing;
 mod verifying;
 mod words;
 
-pub use ending::{closed, flushed};
+pub use ending::{close_after, flush_after};
 pub use outcomes::{Failure, Outcome};
 pub use pairs::{delete, fetch, store, upgrade};
 pub use printing::stat;

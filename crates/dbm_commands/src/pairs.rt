@@ -24,21 +24,21 @@ pub fn store<S: PageStore>(
 ) -> Result<Outcome, Failure>
     ensures { MakesCall db.old db.new (Store key.now content.now mode) (IsTold result) }
 {
-    store_told(db.store(key, content, mode))
+    store_outcome(db.store(key, content, mode))
 }
 
 /// Deletes a pair by one call, whose faults come in its order.
 pub fn delete<S: PageStore>(db: &mut Database<S>, key: &[u8]) -> Result<Outcome, Failure>
     ensures { MakesCall db.old db.new (Delete key.now) (IsTold result) }
 {
-    delete_told(db.delete(key))
+    delete_outcome(db.delete(key))
 }
 
 /// Makes the database one of version 2 by one call, whose faults come in its order.
 pub fn upgrade<S: PageStore>(db: &mut Database<S>) -> Result<Outcome, Failure>
     ensures { MakesCall db.old db.new Upgrade (IsTold result) }
 {
-    upgrade_told(db.upgrade())
+    upgrade_outcome(db.upgrade())
 }
 
 /// Prints the content that the key has, as it is or as a word, and a line feed, and flushes the
@@ -59,7 +59,7 @@ pub fn fetch<S: PageStore, W: Write>(
 }
 
 /// What a store tells.
-fn store_told(ended: Result<StoreReply, Fault>) -> Result<Outcome, Failure>
+fn store_outcome(ended: Result<StoreReply, Fault>) -> Result<Outcome, Failure>
     ensures { IsTold result (told_of_store ended) }
 {
     match ended {
@@ -70,7 +70,7 @@ fn store_told(ended: Result<StoreReply, Fault>) -> Result<Outcome, Failure>
 }
 
 /// What a delete tells.
-fn delete_told(ended: Result<DeleteReply, Fault>) -> Result<Outcome, Failure>
+fn delete_outcome(ended: Result<DeleteReply, Fault>) -> Result<Outcome, Failure>
     ensures { IsTold result (told_of_delete ended) }
 {
     match ended {
@@ -81,7 +81,7 @@ fn delete_told(ended: Result<DeleteReply, Fault>) -> Result<Outcome, Failure>
 }
 
 /// What an upgrade tells.
-fn upgrade_told(ended: Result<(), Fault>) -> Result<Outcome, Failure>
+fn upgrade_outcome(ended: Result<(), Fault>) -> Result<Outcome, Failure>
     ensures { IsTold result (told_of_upgrade ended) }
 {
     match ended {

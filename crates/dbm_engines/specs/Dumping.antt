@@ -1,11 +1,12 @@
 -- What reading a whole database gives and leaves.
-use Rattle.std.specs.Prelude.{◌≡◌, ◌⊎◌, ℕ, true, false, List, length, map, flat_map, Option, Some, None, Result, Ok, Err, OnOk, IsErrOf}
+use Rattle.std.specs.Prelude.{◌≡◌, ◌⊎◌, ℕ, true, false, List, [], ◌∷◌, length, map, flat_map, Option, Some, None, Result, Ok, Err, OnOk, IfErr, IsErrOf}
 use Rattle.std.specs.Global.{Vec}
 use Rattle.std.specs.BTreeMap.{BTreeMap}
 use Rattle.std.specs.BTreeSet.{BTreeSet}
 use Rattle.std.specs.FinMap.{get}
 use Rattle.std.specs.Io.KnownBytes.{Appends}
 use Rattle.sect_dev.specs.Device.{MoreFaults}
+use Rattle.dbm_model.specs.Bounds.{V2}
 use Rattle.dbm_model.specs.Calls.{Call, Reply}
 use Rattle.dbm_model.specs.Pairs.{Key, Pair, Contents}
 use Rattle.dbm_model.specs.States.{State, Handle, first_fault}
@@ -14,14 +15,15 @@ use Rattle.page_io.specs.declared.store.PageStore.{Ghosts}
 use Rattle.dbm_file.specs.Answers.{IsStep, Survives, IsSameDatabase}
 use Rattle.dbm_file.specs.Calls.{Lent, lent_reply}
 use Rattle.dbm_file.specs.Held.{held_by}
-use Rattle.dbm_file.specs.Database.{store_of, page_state, error_of, IsAt}
+use Rattle.dbm_file.specs.Database.{store_of, meta_kept, page_state, error_of, IsAt, AtEachHandle}
+use Rattle.dbm_fault.specs.Among.{IsErrAmong}
 use Rattle.dbm_fault.specs.Faults.{fault_of}
 use Rattle.dbm_file.specs.declared.database.Database.{Database}
 use Rattle.dbm_fault.specs.declared.fault.Fault.{Fault}
 use Rattle.dbm_fault.specs.declared.fault.Fault.TheVariants.{Device, Broken}
 use Rattle.dbm_fault.specs.declared.fault.Fault.TheVariants as call
 use Rattle.dbm_fault.specs.declared.engine_fault.EngineFault.{EngineFault}
-use Rattle.dbm_fault.specs.declared.engine_fault.EngineFault.TheVariants.{Memory, Db}
+use Rattle.dbm_fault.specs.declared.engine_fault.EngineFault.TheVariants.{Memory, Write, Db}
 
 -- the same map, bounds and marks: the error number and the pass may differ
 pub record KeepsMap (before after : State) : Type 0 where
@@ -96,3 +98,40 @@ WritesPairs line_of count before after =
 abbrev pub WritesKeys : (Key → List ℕ) → ℕ → Option (List ℕ) → Option (List ℕ) → Type 0
 WritesKeys line_of count before after =
     (keys : List Key) × (length keys ≡ count) × Appends before after (flat_map line_of keys)
+
+-- What a dump has written, and by what it may be refused. `text_of` is the text of a map, and
+-- `line_of` the line of a pair.
+pub record Dumps {S W T : Type 0} {s : Ghosts S} (text_of : Contents → List ℕ)
+    (line_of : Pair → List ℕ) (contents : W → Option (List ℕ)) (before after : W)
+    (old new : Database S s) (result : Result T EngineFault) : Type 0 where
+  -- of a usable database exactly the text of its map, unless something hindered it
+  pub dump : AtEachHandle old (λ h. h.state.usable ≡ true
+      → OnOk result (Appends (contents before) (contents after) (text_of h.state.map)))
+  pub whole : AtEachHandle old (λ h. h.state.usable ≡ true
+      → IfErr result (λ fault. (fault ≡ Write) ⊎ IsPairChance h.state.map fault))
+  -- whatever it answers, the map stays
+  pub reads : Reads old new result
+  -- on any device
+  pub lines : OnOk result
+      (WritesPairs line_of (meta_kept old).pairs (contents before) (contents after))
+  pub broken : (page_state old).usable ≡ false → result ≡ Err (Db Broken)
+  pub unwritten : IfErr result (λ fault. (fault ≡ Write) ⊎ (after ≡ before))
+  pub memory : result ≡ Err (Db call.Memory) → (meta_kept old).bounds.version ≡ V2
+  pub only : IsErrAmong result (Memory ∷ Write ∷ Db Broken ∷ Db call.NoPass ∷ Db Device
+      ∷ Db call.Damaged ∷ Db call.Memory ∷ [])
+
+-- The same of a list, where `text_of` is the text of a map's keys, and `line_of` the line of a key.
+pub record Lists {S W T : Type 0} {s : Ghosts S} (text_of : Contents → List ℕ)
+    (line_of : Key → List ℕ) (contents : W → Option (List ℕ)) (before after : W)
+    (old new : Database S s) (result : Result T EngineFault) : Type 0 where
+  pub list : AtEachHandle old (λ h. h.state.usable ≡ true
+      → OnOk result (Appends (contents before) (contents after) (text_of h.state.map)))
+  pub whole : AtEachHandle old (λ h. h.state.usable ≡ true
+      → IfErr result (λ fault. (fault ≡ Write) ⊎ IsChance fault))
+  pub reads : Reads old new result
+  pub lines : OnOk result
+      (WritesKeys line_of (meta_kept old).pairs (contents before) (contents after))
+  pub broken : (page_state old).usable ≡ false → result ≡ Err (Db Broken)
+  pub unwritten : IfErr result (λ fault. (fault ≡ Write) ⊎ (after ≡ before))
+  pub only : IsErrAmong result (Memory ∷ Write ∷ Db Broken ∷ Db call.NoPass ∷ Db Device
+      ∷ Db call.Damaged ∷ [])

@@ -1,5 +1,5 @@
 -- What a text of pairs says, and what a load of it does.
-use Rattle.std.specs.Prelude.{◌≡◌, ◌⊎◌, ◌<◌, ℕ, ◌+◌, Bool, true, false, List, [], ◌∷◌, ◌++◌, length, Option, Some, None, IfSome, Result, Ok, Err}
+use Rattle.std.specs.Prelude.{◌≡◌, ◌⊎◌, ◌<◌, ◌≤◌, ℕ, ◌+◌, Bool, true, false, List, [], ◌∷◌, ◌++◌, length, Option, Some, None, IfSome, Result, Ok, Err, OnOk}
 use Rattle.std.specs.FinMap.{empty, entries}
 use Rattle.std.specs.List.{All}
 use Rattle.dbm_model.specs.Calls.{Stored, Refused}
@@ -9,7 +9,7 @@ use Rattle.page_model.specs.PairLists.{HasBytes}
 use Rattle.dbm_model.specs.Pairs.{Pair, Contents}
 use Rattle.dbm_model.specs.States.{Handle}
 use Rattle.page_io.specs.declared.store.PageStore.{Ghosts}
-use Rattle.dbm_file.specs.Answers.{IsStep}
+use Rattle.dbm_file.specs.Answers.{IsStep, IsSameDatabase}
 use Rattle.dbm_file.specs.Database.{store_of, IsAt, AtEachHandle}
 use Rattle.dbm_fault.specs.Faults.{fault_of}
 use Rattle.dbm_file.specs.declared.database.Database.{Database}
@@ -18,7 +18,9 @@ use Rattle.dbm_fault.specs.declared.fault.Fault.{Fault}
 use Rattle.dbm_lines.specs.Forms.{pair_in, is_passed_in, lines_said}
 use Rattle.dbm_lines.specs.declared.forms.TextForm.{TextForm}
 use Rattle.dbm_engines.specs.declared.load_stop.LoadStop.{LoadStop}
-use Rattle.dbm_engines.specs.declared.load_stop.LoadStop.TheVariants.{Bad, Refused as RefusedAt}
+use Rattle.dbm_engines.specs.declared.load_stop.LoadStop.TheVariants.{Memory as NoMemory, Bad, Refused as RefusedAt}
+use Rattle.dbm_engines.specs.LoadEndings.{TellsWhy}
+use Rattle.dbm_engines.specs.LoadRefusals.{StopsByFault}
 use Rattle.dbm_engines.specs.Storing.{StoresAll, StoresBefore, StoresThenGroup}
 
 -- there is a first line, and it is not passed over
@@ -93,6 +95,21 @@ LoadsDump {S} {s} dumped text old new =
     s.honest (store_of old) → (h : Handle) → IsAt old h → h.state.map ≡ empty →
     (contents : Contents) → IsOfBytes contents → text ≡ Some (dumped contents)
     → (after : Handle) × IsAt new after × (after.state.map ≡ contents)
+
+-- What a load of a text of this form has done, and by what it may be stopped.
+pub record IsLoad {S R : Type 0} {s : Ghosts S} (form : TextForm) (dumped : Contents → List ℕ)
+    (remaining : R → Option (List ℕ)) (before after : R) (old new : Database S s)
+    (result : Result Unit LoadStop) : Type 0 where
+  pub loads : Loads form result (remaining before) old new
+  pub why : TellsWhy form result (remaining before)
+  pub read : OnOk result (IfSome (remaining before) (λ text. remaining after ≡ Some []))
+  pub size : OnOk result (IfSome (remaining before) (λ text. length text ≤ 4294967295))
+  -- a dump is loaded back
+  pub dump : OnOk result (LoadsDump dumped (remaining before) old new)
+  -- on any device it is stopped by nothing but a fault of a store, a line, reading and memory
+  pub faults : StopsByFault result
+  pub goes : IsSameDatabase old new
+  pub memory : result ≡ Err NoMemory → (new ≡ old) × (after ≡ before)
 
 -- what became of one line of this number that is passed over, or says this pair, or is bad
 abbrev pub LoadsLine : {S : Type 0} {s : Ghosts S} → Bool → Result Unit LoadStop → Option Pair → ℕ

@@ -1,18 +1,15 @@
 // The engines of dumps and of a list.
-ghost use Rattle.std.specs.Prelude.{◌≡◌, ◌⊎◌, true, false, OnOk, IfErr, Err, ◌∷◌, [], flat_map};
-ghost use Rattle.dbm_fault.specs.Among.{IsErrAmong};
+ghost use Rattle.std.specs.Prelude.{OnOk, flat_map};
 ghost use Rattle.std.specs.Io.KnownBytes.{Appends};
 ghost use Rattle.dbm_lines.specs.Dumps.{dump_line, dump_of, listing_of, text_dump_of, text_line, text_listing_of};
-ghost use Rattle.dbm_model.specs.Bounds.{V2};
 ghost use Rattle.dbm_lines.specs.Forms.{line_in, key_line_in, dump_in, listing_in};
 ghost use Rattle.dbm_lines.specs.declared.forms.TextForm.TheVariants as form;
-ghost use Rattle.dbm_file.specs.Database.{meta_kept, page_state, AtEachHandle};
-ghost use Rattle.dbm_engines.specs.Dumping.{Reads, IsChance, IsPairChance, bytes_of_keys, bytes_of_pairs, WritesPairs, WritesKeys};
+ghost use Rattle.dbm_engines.specs.Dumping.{bytes_of_keys, bytes_of_pairs, Dumps, Lists};
 
 use crate::gather::gather_keys;
 use crate::pairs::gather_pairs;
 use dbm_fault::EngineFault;
-use dbm_file::{Database, Fault};
+use dbm_file::Database;
 use dbm_lines::{TextForm, write_bytes, write_escaped, write_key_field, write_word};
 use dbm_progress::{Progress, Work};
 use page_io::PageStore;
@@ -33,28 +30,7 @@ pub fn dump_engine<S: PageStore, W: Write, P: Progress>(
     writer: &mut W,
     progress: &mut P,
 ) -> Result<(), EngineFault>
-    ensures dump { AtEachHandle db.old (λ h.
-        h.state.usable ≡ true → OnOk result
-        (Appends (W.contents writer.old) (W.contents writer.new) (dump_of h.state.map))) }
-    ensures whole { AtEachHandle db.old (λ h.
-        h.state.usable ≡ true → IfErr result
-        (λ e. (e ≡ EngineFault.Write) ⊎ IsPairChance h.state.map e)) }
-
-    // Whatever it answers, the map stays.
-    ensures reads { Reads db.old db.new result }
-
-    // On any device.
-    ensures lines { OnOk result (WritesPairs dump_line (meta_kept db.old).pairs (W.contents writer.old)
-        (W.contents writer.new)) }
-    ensures broken { (page_state db.old).usable ≡ false
-        → result ≡ Err (EngineFault.Db Fault.Broken) }
-    ensures unwritten { IfErr result (λ e. (e ≡ EngineFault.Write) ⊎ (writer.new ≡ writer.old)) }
-    ensures memory { result ≡ Err (EngineFault.Db Fault.Memory)
-        → (meta_kept db.old).bounds.version ≡ V2 }
-    ensures only { IsErrAmong result
-        (EngineFault.Memory ∷ EngineFault.Write ∷ EngineFault.Db Fault.Broken
-        ∷ EngineFault.Db Fault.NoPass ∷ EngineFault.Db Fault.Device
-        ∷ EngineFault.Db Fault.Damaged ∷ EngineFault.Db Fault.Memory ∷ []) }
+    ensures { Dumps dump_of dump_line W.contents writer.old writer.new db.old db.new result }
 {
     dump_in_form(alloc, db, writer, TextForm::Hexadecimal, progress)
 }
@@ -68,28 +44,8 @@ pub fn dump_text_engine<S: PageStore, W: Write, P: Progress>(
     writer: &mut W,
     progress: &mut P,
 ) -> Result<(), EngineFault>
-    ensures dump { AtEachHandle db.old (λ h.
-        h.state.usable ≡ true → OnOk result
-        (Appends (W.contents writer.old) (W.contents writer.new) (text_dump_of h.state.map))) }
-    ensures whole { AtEachHandle db.old (λ h.
-        h.state.usable ≡ true → IfErr result
-        (λ e. (e ≡ EngineFault.Write) ⊎ IsPairChance h.state.map e)) }
-
-    // Whatever it answers, the map stays.
-    ensures reads { Reads db.old db.new result }
-
-    // On any device.
-    ensures lines { OnOk result (WritesPairs text_line (meta_kept db.old).pairs (W.contents writer.old)
-        (W.contents writer.new)) }
-    ensures broken { (page_state db.old).usable ≡ false
-        → result ≡ Err (EngineFault.Db Fault.Broken) }
-    ensures unwritten { IfErr result (λ e. (e ≡ EngineFault.Write) ⊎ (writer.new ≡ writer.old)) }
-    ensures memory { result ≡ Err (EngineFault.Db Fault.Memory)
-        → (meta_kept db.old).bounds.version ≡ V2 }
-    ensures only { IsErrAmong result
-        (EngineFault.Memory ∷ EngineFault.Write ∷ EngineFault.Db Fault.Broken
-        ∷ EngineFault.Db Fault.NoPass ∷ EngineFault.Db Fault.Device
-        ∷ EngineFault.Db Fault.Damaged ∷ EngineFault.Db Fault.Memory ∷ []) }
+    ensures { Dumps text_dump_of text_line W.contents writer.old writer.new db.old db.new
+        result }
 {
     dump_in_form(alloc, db, writer, TextForm::Escaped, progress)
 }
@@ -105,25 +61,8 @@ pub fn list_engine<S: PageStore, W: Write, P: Progress>(
     writer: &mut W,
     progress: &mut P,
 ) -> Result<(), EngineFault>
-    ensures list { AtEachHandle db.old (λ h.
-        h.state.usable ≡ true → OnOk result
-        (Appends (W.contents writer.old) (W.contents writer.new) (listing_of h.state.map))) }
-    ensures whole { AtEachHandle db.old (λ h.
-        h.state.usable ≡ true → IfErr result (λ e. (e ≡ EngineFault.Write) ⊎ IsChance e)) }
-
-    // Whatever it answers, the map stays.
-    ensures reads { Reads db.old db.new result }
-
-    // On any device.
-    ensures lines { OnOk result (WritesKeys (key_line_in form.Hexadecimal) (meta_kept db.old).pairs
-        (W.contents writer.old) (W.contents writer.new)) }
-    ensures broken { (page_state db.old).usable ≡ false
-        → result ≡ Err (EngineFault.Db Fault.Broken) }
-    ensures unwritten { IfErr result (λ e. (e ≡ EngineFault.Write) ⊎ (writer.new ≡ writer.old)) }
-    ensures only { IsErrAmong result
-        (EngineFault.Memory ∷ EngineFault.Write ∷ EngineFault.Db Fault.Broken
-        ∷ EngineFault.Db Fault.NoPass ∷ EngineFault.Db Fault.Device
-        ∷ EngineFault.Db Fault.Damaged ∷ []) }
+    ensures { Lists listing_of (key_line_in form.Hexadecimal) W.contents writer.old writer.new
+        db.old db.new result }
 {
     list_in_form(alloc, db, writer, TextForm::Hexadecimal, progress)
 }
@@ -136,25 +75,8 @@ pub fn list_text_engine<S: PageStore, W: Write, P: Progress>(
     writer: &mut W,
     progress: &mut P,
 ) -> Result<(), EngineFault>
-    ensures list { AtEachHandle db.old (λ h.
-        h.state.usable ≡ true → OnOk result
-        (Appends (W.contents writer.old) (W.contents writer.new) (text_listing_of h.state.map))) }
-    ensures whole { AtEachHandle db.old (λ h.
-        h.state.usable ≡ true → IfErr result (λ e. (e ≡ EngineFault.Write) ⊎ IsChance e)) }
-
-    // Whatever it answers, the map stays.
-    ensures reads { Reads db.old db.new result }
-
-    // On any device.
-    ensures lines { OnOk result (WritesKeys (key_line_in form.Escaped) (meta_kept db.old).pairs
-        (W.contents writer.old) (W.contents writer.new)) }
-    ensures broken { (page_state db.old).usable ≡ false
-        → result ≡ Err (EngineFault.Db Fault.Broken) }
-    ensures unwritten { IfErr result (λ e. (e ≡ EngineFault.Write) ⊎ (writer.new ≡ writer.old)) }
-    ensures only { IsErrAmong result
-        (EngineFault.Memory ∷ EngineFault.Write ∷ EngineFault.Db Fault.Broken
-        ∷ EngineFault.Db Fault.NoPass ∷ EngineFault.Db Fault.Device
-        ∷ EngineFault.Db Fault.Damaged ∷ []) }
+    ensures { Lists text_listing_of (key_line_in form.Escaped) W.contents writer.old writer.new
+        db.old db.new result }
 {
     list_in_form(alloc, db, writer, TextForm::Escaped, progress)
 }
@@ -167,25 +89,8 @@ fn list_in_form<S: PageStore, W: Write, P: Progress>(
     form: TextForm,
     progress: &mut P,
 ) -> Result<(), EngineFault>
-    ensures list { AtEachHandle db.old (λ h.
-        h.state.usable ≡ true → OnOk result
-        (Appends (W.contents writer.old) (W.contents writer.new) (listing_in form h.state.map))) }
-    ensures whole { AtEachHandle db.old (λ h.
-        h.state.usable ≡ true → IfErr result (λ e. (e ≡ EngineFault.Write) ⊎ IsChance e)) }
-
-    // Whatever it answers, the map stays.
-    ensures reads { Reads db.old db.new result }
-
-    // On any device.
-    ensures lines { OnOk result (WritesKeys (key_line_in form) (meta_kept db.old).pairs
-        (W.contents writer.old) (W.contents writer.new)) }
-    ensures broken { (page_state db.old).usable ≡ false
-        → result ≡ Err (EngineFault.Db Fault.Broken) }
-    ensures unwritten { IfErr result (λ e. (e ≡ EngineFault.Write) ⊎ (writer.new ≡ writer.old)) }
-    ensures only { IsErrAmong result
-        (EngineFault.Memory ∷ EngineFault.Write ∷ EngineFault.Db Fault.Broken
-        ∷ EngineFault.Db Fault.NoPass ∷ EngineFault.Db Fault.Device
-        ∷ EngineFault.Db Fault.Damaged ∷ []) }
+    ensures { Lists (listing_in form) (key_line_in form) W.contents writer.old writer.new db.old
+        db.new result }
 {
     let keys = gather_keys(alloc, db, progress)?;
     progress.clear();
@@ -200,28 +105,8 @@ fn dump_in_form<S: PageStore, W: Write, P: Progress>(
     form: TextForm,
     progress: &mut P,
 ) -> Result<(), EngineFault>
-    ensures dump { AtEachHandle db.old (λ h.
-        h.state.usable ≡ true → OnOk result
-        (Appends (W.contents writer.old) (W.contents writer.new) (dump_in form h.state.map))) }
-    ensures whole { AtEachHandle db.old (λ h.
-        h.state.usable ≡ true → IfErr result
-        (λ e. (e ≡ EngineFault.Write) ⊎ IsPairChance h.state.map e)) }
-
-    // Whatever it answers, the map stays.
-    ensures reads { Reads db.old db.new result }
-
-    // On any device.
-    ensures lines { OnOk result (WritesPairs (line_in form) (meta_kept db.old).pairs (W.contents writer.old)
-        (W.contents writer.new)) }
-    ensures broken { (page_state db.old).usable ≡ false
-        → result ≡ Err (EngineFault.Db Fault.Broken) }
-    ensures unwritten { IfErr result (λ e. (e ≡ EngineFault.Write) ⊎ (writer.new ≡ writer.old)) }
-    ensures memory { result ≡ Err (EngineFault.Db Fault.Memory)
-        → (meta_kept db.old).bounds.version ≡ V2 }
-    ensures only { IsErrAmong result
-        (EngineFault.Memory ∷ EngineFault.Write ∷ EngineFault.Db Fault.Broken
-        ∷ EngineFault.Db Fault.NoPass ∷ EngineFault.Db Fault.Device
-        ∷ EngineFault.Db Fault.Damaged ∷ EngineFault.Db Fault.Memory ∷ []) }
+    ensures { Dumps (dump_in form) (line_in form) W.contents writer.old writer.new db.old db.new
+        result }
 {
     let pairs = gather_pairs(alloc, db, progress)?;
     progress.clear();

@@ -5,7 +5,7 @@ ghost use Rattle.dbm_lines.specs.Dumps.{dump_of, text_dump_of};
 ghost use Rattle.dbm_lines.specs.Forms.{pair_in, is_passed_in, dump_in};
 ghost use Rattle.dbm_engines.specs.LoadEndings.{IsBadFor, TellsWhy};
 ghost use Rattle.dbm_engines.specs.LoadRefusals.{StopsByFault};
-ghost use Rattle.dbm_engines.specs.Loading.{Loads, LoadsDump, LoadsLine};
+ghost use Rattle.dbm_engines.specs.Loading.{Loads, LoadsDump, LoadsLine, IsLoad};
 
 use crate::batch::Batch;
 use crate::grouping::load_groups;
@@ -35,22 +35,8 @@ pub fn load_engine<S: PageStore, R: BufRead, P: Progress>(
     group: u32,
     progress: &mut P,
 ) -> Result<(), LoadStop>
-    ensures loads { Loads TextForm.Hexadecimal result (R.remaining reader.old) db.old db.new }
-    ensures why { TellsWhy TextForm.Hexadecimal result (R.remaining reader.old) }
-    ensures read { OnOk result (IfSome (R.remaining reader.old)
-        (λ text. R.remaining reader.new ≡ Some [])) }
-    ensures size { OnOk result (IfSome (R.remaining reader.old)
-        (λ text. length text ≤ 4294967295)) }
-
-    // A dump is loaded back.
-    ensures dump { OnOk result (LoadsDump dump_of (R.remaining reader.old) db.old db.new) }
-
-    // On any device it is refused by no other fault than those of a store, of a line, of reading
-    // and of memory.
-    ensures faults { StopsByFault result }
-    ensures goes { IsSameDatabase db.old db.new }
-    ensures memory { result ≡ Err LoadStop.Memory
-        → (db.new ≡ db.old) × (reader.new ≡ reader.old) }
+    ensures { IsLoad TextForm.Hexadecimal dump_of R.remaining reader.old reader.new db.old db.new
+        result }
 {
     load_in_form(alloc, db, reader, TextForm::Hexadecimal, group, progress)
 }
@@ -66,22 +52,8 @@ pub fn load_text_engine<S: PageStore, R: BufRead, P: Progress>(
     group: u32,
     progress: &mut P,
 ) -> Result<(), LoadStop>
-    ensures loads { Loads TextForm.Escaped result (R.remaining reader.old) db.old db.new }
-    ensures why { TellsWhy TextForm.Escaped result (R.remaining reader.old) }
-    ensures read { OnOk result (IfSome (R.remaining reader.old)
-        (λ text. R.remaining reader.new ≡ Some [])) }
-    ensures size { OnOk result (IfSome (R.remaining reader.old)
-        (λ text. length text ≤ 4294967295)) }
-
-    // A dump is loaded back.
-    ensures dump { OnOk result (LoadsDump text_dump_of (R.remaining reader.old) db.old db.new) }
-
-    // On any device it is refused by no other fault than those of a store, of a line, of reading
-    // and of memory.
-    ensures faults { StopsByFault result }
-    ensures goes { IsSameDatabase db.old db.new }
-    ensures memory { result ≡ Err LoadStop.Memory
-        → (db.new ≡ db.old) × (reader.new ≡ reader.old) }
+    ensures { IsLoad TextForm.Escaped text_dump_of R.remaining reader.old reader.new db.old db.new
+        result }
 {
     load_in_form(alloc, db, reader, TextForm::Escaped, group, progress)
 }

@@ -6,7 +6,7 @@ use Rattle.std.proofs.lemmas.Bool.{le-leb}
 use Rattle.dbm_model.specs.Calls as model
 use Rattle.dbm_model.specs.Pairs.{Pair, Contents, is_far}
 use Rattle.dbm_model.specs.States.{Handle}
-use Rattle.dbm_model.specs.Steps.{buckets_opened, holds_far, is_full, store_takes, takes_memory}
+use Rattle.dbm_model.specs.Steps.{buckets_added, holds_far, is_full, store_takes, takes_memory}
 use Rattle.page_model.specs.Address.{Shape, buckets, grown}
 use Rattle.page_model.specs.Pages.{Meta}
 use Rattle.page_model.specs.Placement.{Placement, contents}
@@ -21,8 +21,8 @@ use Rattle.dbm_file.specs.declared.calls.StoreMode.TheVariants.{Replace}
 
 -- a change that keeps the shape opens none
 pub none_opened : (before : Handle) (reply : model.Reply) (old new : Meta) (pairs : ℕ)
-    → shape_in new ≡ shape_in old → buckets_opened before reply pairs ≡ 0
-    → meta_buckets new ≡ meta_buckets old + buckets_opened before reply pairs
+    → shape_in new ≡ shape_in old → buckets_added before reply pairs ≡ 0
+    → meta_buckets new ≡ meta_buckets old + buckets_added before reply pairs
 none_opened before reply old new pairs shape none =
     let same : meta_buckets new ≡ meta_buckets old = ap buckets shape in
     omega (arith, same, none)

@@ -11,7 +11,7 @@ use Rattle.page_model.specs.Pages.{Meta, MetaPage}
 use Rattle.dbm_model.specs.Pairs.{Contents}
 use Rattle.dbm_model.specs.States.{Handle, first_fault, flagged}
 use Rattle.dbm_model.specs.Sizes.{home, most_taken}
-use Rattle.dbm_model.specs.Steps.{Case, Changes, case_of, Answers, Suffers, IsShort, takes_memory, growth, buckets_opened}
+use Rattle.dbm_model.specs.Steps.{Case, Changes, case_of, Answers, Suffers, IsShort, takes_memory, growth, buckets_added}
 use Rattle.page_model.specs.Meaning.{said_by}
 use Rattle.page_io.specs.Store.{Settled, Pages, file_of, page_of}
 use Rattle.page_io.specs.Store as store
@@ -147,7 +147,7 @@ module _ {S : Type 0} (s : Ghosts S) {old mid : Database S s} {map changed : Con
         → ((page_state new).end ≡ (page_state mid).end)
         ⊎ ((page_state new).end ≤ home (meta_kept mid).bounds)
         → meta_buckets (meta_kept new)
-        ≡ meta_buckets (meta_kept mid) + buckets_opened before said (len changed)
+        ≡ meta_buckets (meta_kept mid) + buckets_added before said (len changed)
         → ChangesMap s (store_of mid) (store_of new) (meta_kept mid) (meta_kept new) map changed
         wanted most (Ok tt) → ((x : Settled) → s.settles_to (store_of new) x
         → x ≡ file_of (s.committed (store_of new))) → IsStep old new before call said
@@ -167,7 +167,7 @@ module _ {S : Type 0} (s : Ghosts S) {old mid : Database S s} {map changed : Con
             );
             bounded = ⊎_elim (λ same. inl (same ∙ mid_end))
                 (λ within. inr (of_limit (λ pages. (page_state new).end ≤ pages) within)) fits;
-            buckets = grown ∙ ap (λ (n : ℕ). n + buckets_opened before said (len changed))
+            buckets = grown ∙ ap (λ (n : ℕ). n + buckets_added before said (len changed))
                 mid_buckets;
             answers = inl (subst (λ (c : Case).
                 Answers before.state c said (handle_of new changed).state)

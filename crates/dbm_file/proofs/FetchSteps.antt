@@ -5,7 +5,7 @@ use Rattle.std.specs.Option.{option_map}
 use Rattle.std.specs.FinMap.{get, len}
 use Rattle.dbm_model.specs.Calls as model
 use Rattle.dbm_model.specs.Pairs.{Key, Contents}
-use Rattle.dbm_model.specs.Steps.{Case, Finds, Suffers, buckets_opened, fetched, holds_far}
+use Rattle.dbm_model.specs.Steps.{Case, Finds, Suffers, buckets_added, fetched, holds_far}
 use Rattle.dbm_model.specs.States.{Handle}
 use Rattle.page_model.specs.Valid.{IsMeta}
 use Rattle.page_io.specs.Answers.{HasDeviceCause}
@@ -39,7 +39,7 @@ abbrev IsFetched : {S : Type 0} {s : Ghosts S} → Database S s → Key → Lent
 IsFetched old key r new = Lends (model.Fetch key) (lent_reply model.NoRecord) old r new
 
 fetch_opens_none : (before : Handle) (pairs : ℕ) (found : Option (Bor (List ℕ)))
-    → buckets_opened before (lent_reply model.NoRecord (Ok found)) pairs ≡ 0
+    → buckets_added before (lent_reply model.NoRecord (Ok found)) pairs ≡ 0
 fetch_opens_none before pairs None = refl
 fetch_opens_none before pairs (Some content) = refl
 

@@ -22,7 +22,7 @@ use Rattle.dbm_fault.specs.declared.fault.Fault.TheVariants.{Device, Broken}
 use Rattle.dbm_file.specs.Held.{Held, held_by}
 use Rattle.dbm_file.specs.Answers.{StandsForSome, Survives}
 use Rattle.dbm_file.specs.Database.{store_of, meta_kept, page_state, handle_of, IsAt}
-use Rattle.dbm_file.specs.Grouping.{handle_in, IsAlike, HasStored}
+use Rattle.dbm_file.specs.GroupsInMemory.{handle_in, IsAlike, HasStored}
 use Rattle.dbm_file.specs.Groups.{IsGroup, IsGroupRefused, GroupEnds}
 use Rattle.dbm_file.specs.Passing.{pass_of}
 use Rattle.dbm_file.specs.Trying.{with_fault, IsRead}

@@ -15,7 +15,7 @@ use Rattle.dbm_fault.specs.Faults.{fault_from}
 use Rattle.dbm_fault.specs.declared.fault.Fault.{Fault}
 use Rattle.dbm_file.specs.Answers.{IsSameDatabase}
 use Rattle.dbm_file.specs.Database.{store_of, meta_kept, page_state, IsAt}
-use Rattle.dbm_file.specs.Grouping.{IsBegun, BeginsAt, HasStored, StoresMany, HasLent, EndsLent}
+use Rattle.dbm_file.specs.GroupsInMemory.{IsBegun, BeginsAt, HasStored, StoresMany, HasLent, EndsLent}
 use Rattle.dbm_file.specs.Trying.{IsRead}
 use Rattle.dbm_file.specs.declared.database.Database.{Database}
 use Rattle.dbm_file.proofs.GroupEnds.{IsCommitted, none_grouped, group_refused, all_grouped, group_broke}

@@ -17,7 +17,7 @@ use Rattle.page_io.specs.declared.store.PageStore.{Ghosts}
 use Rattle.dbm_file.specs.Answers.{IsStep, IsCallEnded}
 use Rattle.dbm_file.specs.Calls.{store_reply}
 use Rattle.dbm_file.specs.Database.{store_of, meta_kept, page_state, handle_of, IsAt}
-use Rattle.dbm_file.specs.Grouping.{IsSameGroup, handle_in, IsAlike, IsStoredIn, StoresOne, StoresMany}
+use Rattle.dbm_file.specs.GroupsInMemory.{IsSameGroup, handle_in, IsAlike, IsStoredIn, StoresOne, StoresMany}
 use Rattle.dbm_file.specs.declared.calls.StoreReply.{StoreReply}
 use Rattle.dbm_file.specs.declared.calls.StoreReply.TheVariants.{Kept}
 use Rattle.dbm_file.specs.declared.calls.StoreReply.TheVariants as done

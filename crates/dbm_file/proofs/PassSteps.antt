@@ -9,7 +9,7 @@ use Rattle.dbm_model.specs.Bounds.{Bounds}
 use Rattle.dbm_model.specs.Calls as model
 use Rattle.dbm_model.specs.Pairs.{Key, Contents}
 use Rattle.dbm_model.specs.States.{State, Pass, NotBegun, Begun, Behind, Handle, error_number}
-use Rattle.dbm_model.specs.Steps.{Case, Passes, IsNextKey, GivesKey, Suffers, buckets_opened, case_of, Answers}
+use Rattle.dbm_model.specs.Steps.{Case, Passes, IsNextKey, GivesKey, Suffers, buckets_added, case_of, Answers}
 use Rattle.page_model.specs.Placement.{Placement}
 use Rattle.page_model.specs.Placement as placement
 use Rattle.page_model.specs.Pages.{Record}
@@ -48,13 +48,13 @@ use Rattle.dbm_file.proofs.ReadSteps.{at_own, from_own, same_state, no_more_page
 abbrev pub with_pass : {S : Type 0} {s : Ghosts S} → Database S s → code.Pass → Database S s
 with_pass db pass = record db { pass = pass }
 
--- a key that is given, or the end, opens no bucket
+-- a key that is given, or the end, adds no bucket
 none_opened : (before : Handle) (from : Pass) (reply : model.Reply) (after : State) (pairs : ℕ)
-    → GivesKey before.state from reply after → buckets_opened before reply pairs ≡ 0
+    → GivesKey before.state from reply after → buckets_added before reply pairs ≡ 0
 none_opened before from reply after pairs (inl end) =
-    ap (λ (r : model.Reply). buckets_opened before r pairs) end.1
+    ap (λ (r : model.Reply). buckets_added before r pairs) end.1
 none_opened before from reply after pairs (inr given) =
-    ap (λ (r : model.Reply). buckets_opened before r pairs) given.2
+    ap (λ (r : model.Reply). buckets_added before r pairs) given.2
 
 -- a call that goes on from there
 module _ {S : Type 0} (s : Ghosts S) (old new : Database S s) (h : Handle) (at : IsAt old h)

@@ -11,7 +11,7 @@ use Rattle.page_model.specs.Pages.{Meta, MetaPage}
 use Rattle.page_model.specs.Valid.{meta_buckets}
 use Rattle.dbm_model.specs.Pairs.{Contents}
 use Rattle.dbm_model.specs.States.{State, Pass, Handle, first_fault, flagged}
-use Rattle.dbm_model.specs.Steps.{Case, Tells, Refuses, Declines, Finds, case_of, Answers, Suffers, Fails, LacksMemory, takes_memory, growth, buckets_opened, Step}
+use Rattle.dbm_model.specs.Steps.{Case, Tells, Refuses, Declines, Finds, case_of, Answers, Suffers, Fails, LacksMemory, takes_memory, growth, buckets_added, Step}
 use Rattle.page_model.specs.Meaning.{said_by}
 use Rattle.page_io.specs.Store.{Pages, Settled, page_of}
 use Rattle.page_io.specs.Store as store
@@ -149,10 +149,10 @@ pub no_more_pages : (before after : Handle) (reply : model.Reply) → after.page
     → (before.pages ≤ after.pages) × (after.pages ≤ before.pages + growth before reply)
 no_more_pages before after reply same = (omega (arith, same), omega (arith, same))
 
--- one that opens no bucket, with the buckets that there were
+-- one that adds no bucket, with the buckets that there were
 pub no_more_buckets : (before after : Handle) (reply : model.Reply) (pairs : ℕ)
-    → after.buckets ≡ before.buckets → buckets_opened before reply pairs ≡ 0
-    → after.buckets ≡ before.buckets + buckets_opened before reply pairs
+    → after.buckets ≡ before.buckets → buckets_added before reply pairs ≡ 0
+    → after.buckets ≡ before.buckets + buckets_added before reply pairs
 no_more_buckets before after reply pairs same none = omega (arith, same, none)
 
 module _ {S : Type 0} (s : Ghosts S) (old new : Database S s) (map : Contents)
@@ -213,7 +213,7 @@ module _ {S : Type 0} (s : Ghosts S) (old new : Database S s) (map : Contents)
   before = handle_of old map
 
   -- one that adds no page, by the rule that it falls under
-  answered_step : (reply : model.Reply) → buckets_opened before reply (len map) ≡ 0
+  answered_step : (reply : model.Reply) → buckets_added before reply (len map) ≡ 0
       → (rule : Case) → case_of before call ≡ rule
       → Answers before.state rule reply (handle_of new map).state → IsStep old new before call reply
   answered_step reply none rule falls is = record {
@@ -238,11 +238,11 @@ module _ {S : Type 0} (s : Ghosts S) (old new : Database S s) (map : Contents)
   still_state = same_state s old new map read.pass_is (still_bounds s old new read) read.error_is
       (still_writable s old new read) (still_usable s old new read)
 
-  pub found_step : (reply : model.Reply) → buckets_opened before reply (len map) ≡ 0
+  pub found_step : (reply : model.Reply) → buckets_added before reply (len map) ≡ 0
       → case_of before call ≡ Finds reply → IsStep old new before call reply
   found_step reply none falls = answered_step reply none (Finds reply) falls (refl, still_state)
 
-  pub told_step_of : (reply : model.Reply) → buckets_opened before reply (len map) ≡ 0
+  pub told_step_of : (reply : model.Reply) → buckets_added before reply (len map) ≡ 0
       → case_of before call ≡ Tells reply before.state → IsStep old new before call reply
   told_step_of reply none falls =
       answered_step reply none (Tells reply before.state) falls (refl, still_state)

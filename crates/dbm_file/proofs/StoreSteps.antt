@@ -99,17 +99,17 @@ module _ {S : Type 0} {s : Ghosts S} {old : Database S s} (new : Database S s) {
     (step : IsStep old (with_fault new (fault_from e)) h call
     (model.Refused (fault_of (fault_from e)))) where
   -- what a `?` answers of a fault of the pages
-  pub store_told : (r : Result StoreReply Fault) → IsErrAnd r (λ fault. fault ≡ fault_from e)
+  pub reply_to_store : (r : Result StoreReply Fault) → IsErrAnd r (λ fault. fault ≡ fault_from e)
       → IsStep old (with_error_of new r) h call (store_reply r)
-  store_told (Ok value) is = absurd is
-  store_told (Err fault) is = subst
+  reply_to_store (Ok value) is = absurd is
+  reply_to_store (Err fault) is = subst
       (λ (f : Fault). IsStep old (with_fault new f) h call (model.Refused (fault_of f))) (sym is)
       step
 
-  pub delete_told : (r : Result DeleteReply Fault) → IsErrAnd r (λ fault. fault ≡ fault_from e)
+  pub reply_to_delete : (r : Result DeleteReply Fault) → IsErrAnd r (λ fault. fault ≡ fault_from e)
       → IsStep old (with_error_of new r) h call (delete_reply r)
-  delete_told (Ok value) is = absurd is
-  delete_told (Err fault) is = subst
+  reply_to_delete (Ok value) is = absurd is
+  reply_to_delete (Err fault) is = subst
       (λ (f : Fault). IsStep old (with_fault new f) h call (model.Refused (fault_of f))) (sym is)
       step
 

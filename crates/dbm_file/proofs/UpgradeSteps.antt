@@ -63,13 +63,13 @@ upgrade_asked s db map read usable writable honest holds rests first room = reco
 }
 
 -- what a `?` answers of a fault of the pages
-pub upgrade_told : {S : Type 0} {s : Ghosts S} {old : Database S s} (new : Database S s) {h : Handle}
+pub reply_to_upgrade : {S : Type 0} {s : Ghosts S} {old : Database S s} (new : Database S s) {h : Handle}
     (e : PageFault) → IsStep old (with_fault new (fault_from e)) h model.Upgrade
     (model.Refused (fault_of (fault_from e)))
     → (r : Result (Unit {0}) Fault) → IsErrAnd r (λ fault. fault ≡ fault_from e)
     → IsStep old (with_error_of new r) h model.Upgrade (upgrade_reply r)
-upgrade_told new e step (Ok done) is = absurd is
-upgrade_told {S} {s} {old} new {h} e step (Err fault) is = subst
+reply_to_upgrade new e step (Ok done) is = absurd is
+reply_to_upgrade {S} {s} {old} new {h} e step (Err fault) is = subst
     (λ (f : Fault). IsStep old (with_fault new f) h model.Upgrade (model.Refused (fault_of f)))
     (sym is) step
 

@@ -4,7 +4,7 @@ pub mod Changing
 pub mod Database
 pub mod Ending
 pub mod Fetching
-pub mod Grouping
+pub mod GroupsInMemory
 pub mod Groups
 pub mod Held
 pub mod Lending

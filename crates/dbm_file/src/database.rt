@@ -179,8 +179,8 @@ impl<S: PageStore> Database<S> {
         ensures cause { HasDeviceCause (S.faults (store_of self.old))
             (S.faults (store_of self.new)) result }
         ensures answer { IsLoadAnswer (page_state self.old) result }
-        ensures memory { IsErrOf result Memory → (meta_kept self.old).bounds.version ≡ V2 }
-        ensures far { IsErrOf result Memory → Searched self.old key.now (EndsAtFar key.now) }
+        ensures memory { IsErrOf result Memory → ((meta_kept self.old).bounds.version ≡ V2)
+            × Searched self.old key.now (EndsAtFar key.now) }
         ensures held { IfOk result (λ found. IfSome found (IsThere self.new)) }
         ensures searched { IfOk result (λ found. Searched self.old key.now
             (EndsAtContent (body_at S.PageStore (store_of self.old)) key.now

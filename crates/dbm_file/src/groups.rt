@@ -6,7 +6,7 @@ ghost use Rattle.page_model.specs.Valid.{IsMeta};
 ghost use Rattle.seg_table.specs.MetaPages.{model_meta};
 ghost use Rattle.dbm_file.specs.Answers.{IsSameDatabase};
 ghost use Rattle.dbm_file.specs.Database.{page_state, AtEachHandle};
-ghost use Rattle.dbm_file.specs.Grouping.{IsBegun, BeginsAt, IsDeviceEnd, StoresOne, StoresMany, IsLeft, EndsLent};
+ghost use Rattle.dbm_file.specs.GroupsInMemory.{IsBegun, BeginsAt, IsDeviceEnd, StoresOne, StoresMany, IsLeft, EndsLent};
 ghost use Rattle.dbm_file.specs.Pairs.{pair_of};
 
 use crate::database::{Database, refuse};

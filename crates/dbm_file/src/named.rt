@@ -90,7 +90,7 @@ pub fn open_named<R: Files<File = File>>(
     ensures told { IfErr result (λ e. e.fault ≡ Fault.Device → IsSome e.system) }
 {
     let Ok(path) = path_of(alloc, name) else {
-        return Err(untold(Fault::Memory));
+        return Err(without_cause(Fault::Memory));
     };
     let writable = how.access.is_writable();
     match open_path(rt, path.as_str(), writable, how.create) {
@@ -98,8 +98,8 @@ pub fn open_named<R: Files<File = File>>(
             Ok(db) => Ok(db),
             Err((dev, fault)) => Err(refused_by(&dev, fault)),
         },
-        Err(FileFault::Memory) => Err(untold(Fault::Memory)),
-        Err(FileFault::Missing) => Err(untold(Fault::Missing)),
+        Err(FileFault::Memory) => Err(without_cause(Fault::Memory)),
+        Err(FileFault::Missing) => Err(without_cause(Fault::Missing)),
         Err(FileFault::Device(error)) => Err(Refusal {
             fault: Fault::Device,
             system: Some(error),
@@ -151,7 +151,7 @@ fn refused_by(dev: &FileDev, fault: Fault) -> Refusal
 }
 
 /// A refusal of which the system tells nothing.
-fn untold(fault: Fault) -> Refusal
+fn without_cause(fault: Fault) -> Refusal
     ensures { result.fault ≡ fault }
 {
     Refusal {

@@ -129,18 +129,18 @@ fn answer<S: PageStore>(db: &mut Database<S>, call: &Call, rooms: &mut Rooms) ->
 {
     match call {
         Call::Store { key, content, mode } => {
-            store_told(db.store(key.as_slice(), content.as_slice(), *mode))
+            reply_to_store(db.store(key.as_slice(), content.as_slice(), *mode))
         }
         Call::Fetch(key) => {
             let room = take_room(&mut rooms.contents);
             bytes_in(room, db.fetch(key.as_slice()), Reply::NoRecord)
         }
-        Call::Delete(key) => delete_told(db.delete(key.as_slice())),
+        Call::Delete(key) => reply_to_delete(db.delete(key.as_slice())),
         Call::First => bytes_in(take_room(&mut rooms.keys), db.firstkey(), Reply::End),
         Call::Next => bytes_in(take_room(&mut rooms.keys), db.nextkey(), Reply::End),
         Call::Error => Reply::Number(db.error()),
         Call::Clear => Reply::Number(db.clearerr()),
-        Call::Upgrade => upgrade_told(db.upgrade()),
+        Call::Upgrade => reply_to_upgrade(db.upgrade()),
     }
 }
 
@@ -154,7 +154,7 @@ fn take_room(rooms: &mut Vec<Vec<u8>>) -> Vec<u8>
 }
 
 /// The reply to a store.
-fn store_told(ended: Result<StoreReply, Fault>) -> Reply
+fn reply_to_store(ended: Result<StoreReply, Fault>) -> Reply
     ensures { result ≡ told_of_store ended }
 {
     match ended {
@@ -165,7 +165,7 @@ fn store_told(ended: Result<StoreReply, Fault>) -> Reply
 }
 
 /// The reply to a delete.
-fn delete_told(ended: Result<DeleteReply, Fault>) -> Reply
+fn reply_to_delete(ended: Result<DeleteReply, Fault>) -> Reply
     ensures { result ≡ told_of_delete ended }
 {
     match ended {
@@ -176,7 +176,7 @@ fn delete_told(ended: Result<DeleteReply, Fault>) -> Reply
 }
 
 /// The reply to an upgrade.
-fn upgrade_told(ended: Result<(), Fault>) -> Reply
+fn reply_to_upgrade(ended: Result<(), Fault>) -> Reply
     ensures { result ≡ told_of_upgrade ended }
 {
     match ended {

@@ -8,7 +8,7 @@ use Rattle.dbm_model.specs.Changes.{replacing, with_pairs}
 use Rattle.dbm_model.specs.Examples.{one}
 use Rattle.dbm_model.specs.Pairs.{Pair, Contents, key_cmp}
 use Rattle.dbm_model.specs.States.{NotBegun, State, Handle, fresh}
-use Rattle.dbm_model.specs.Steps.{Changes, Step, Run, buckets_opened}
+use Rattle.dbm_model.specs.Steps.{Changes, Step, Run, buckets_added}
 use Rattle.dbm_model.specs.Bounds.{Bounds, in_v1}
 use Rattle.dbm_model.specs.Holding.{IsWithin}
 use Rattle.dbm_model.proofs.HoldingLemmas.{stays_within}
@@ -40,10 +40,10 @@ again = insert only (one 0x61) (one 0x02)
 
 -- two pairs are no reason for another bucket
 few : (key content : List ℕ) (old : Option (List ℕ)) → get only key ≡ old
-    → buckets_opened (start only) Stored (cond (is_some old) 1 2) ≡ 0
-    → buckets_opened (start only) Stored (len (insert only key content)) ≡ 0
+    → buckets_added (start only) Stored (cond (is_some old) 1 2) ≡ 0
+    → buckets_added (start only) Stored (len (insert only key content)) ≡ 0
 few key content old has none =
-    ap (buckets_opened (start only) Stored) (len-insert order only key content
+    ap (buckets_added (start only) Stored) (len-insert order only key content
     ∙ ap (λ (o : Option (List ℕ)). cond (is_some o) (len only) (len only + 1)) has
     ∙ ap (λ (n : ℕ). cond (is_some old) n (n + 1)) (one_more (one 0x61) (one 0x01))) ∙ none
 

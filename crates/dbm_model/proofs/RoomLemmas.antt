@@ -7,7 +7,7 @@ use Rattle.dbm_model.specs.Calls.{Call, Store, Replace, Reply, Stored, Kept, Del
 use Rattle.dbm_model.specs.Pairs.{key_cmp, is_allowed}
 use Rattle.dbm_model.specs.Sizes.{home, pages_for}
 use Rattle.dbm_model.specs.States.{State, NotBegun, Handle, flagged, fresh}
-use Rattle.dbm_model.specs.Steps.{Case, Changes, Suffers, IsShort, growth, buckets_opened, case_for, Step}
+use Rattle.dbm_model.specs.Steps.{Case, Changes, Suffers, IsShort, growth, buckets_added, case_for, Step}
 use Rattle.dbm_model.specs.Examples.{one}
 use Rattle.dbm_model.specs.Room.{RoomStays, HasRoom, RoomIsKnown, PagesAreBounded, RoomExamples, with_room, IsFirstStore}
 use Rattle.dbm_model.proofs.RefusalLemmas.{refuses_where_due}
@@ -28,7 +28,7 @@ none_grows before Upgraded other = refl
 none_grows before (Refused fault) other = refl
 
 none_opened : (before : Handle) (reply : Reply) (pairs : ℕ) → (reply ≡ Stored → ⊥)
-    → buckets_opened before reply pairs ≡ 0
+    → buckets_added before reply pairs ≡ 0
 none_opened before Stored pairs other = absurd (other refl)
 none_opened before Kept pairs other = refl
 none_opened before Deleted pairs other = refl
@@ -139,7 +139,7 @@ room_examples = record {
       omega (arith, (first_short (in_v2 1) (omega arith) refl 76 after step).0);
   eight = λ capacity after step. omega (arith, step.pages.1, no_pair);
   one_bucket = λ capacity after step. step.buckets
-      ∙ ap (λ pairs. 1 + buckets_opened (with_room (in_v1 100) capacity) Stored pairs)
+      ∙ ap (λ pairs. 1 + buckets_added (with_room (in_v1 100) capacity) Stored pairs)
       (first_left capacity after step);
 }
 

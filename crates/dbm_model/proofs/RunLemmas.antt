@@ -10,14 +10,14 @@ use Rattle.dbm_model.specs.Bounds.{Bounds, in_v1}
 use Rattle.dbm_model.specs.Calls.{Mode, Insert, Replace, Call, Store, Reply, Stored, Kept, Bytes, NoRecord, Absent, Deleted, Number, Fault, NoPass, Full, TooLong}
 use Rattle.dbm_model.specs.Pairs.{Contents, Key, key_cmp, is_allowed}
 use Rattle.dbm_model.specs.States.{State, Pass, NotBegun, Handle, fresh}
-use Rattle.dbm_model.specs.Steps.{Case, Tells, Refuses, Declines, Finds, Changes, with_map, fetched, deleted, stored, case_for, case_of, Answers, Run, buckets_opened}
+use Rattle.dbm_model.specs.Steps.{Case, Tells, Refuses, Declines, Finds, Changes, with_map, fetched, deleted, stored, case_for, case_of, Answers, Run, buckets_added}
 use Rattle.dbm_model.specs.Examples.{StopsAtLimit, StoresAndDeletes, MayAnswer, one}
 
 -- the handle after a call that nothing stops
 abbrev with_state : Handle → Reply → State → Handle
 with_state h reply after = record h {
   state = after;
-  buckets = h.buckets + buckets_opened h reply (len after.map);
+  buckets = h.buckets + buckets_added h reply (len after.map);
 }
 
 -- a first call that nothing stops
@@ -62,9 +62,9 @@ pub goes : (s : State) {call : Call} {calls : List Call} {reply : Reply} {replie
     → IsRunFrom s (call ∷ calls) (reply ∷ replies)
 goes s {call} {calls} {reply} {replies} c after falls answers rest = record {
   last = λ buckets.
-      rest.last (buckets + buckets_opened (with_buckets s buckets) reply (len after.map));
+      rest.last (buckets + buckets_added (with_buckets s buckets) reply (len after.map));
   run = λ buckets.
-      let then_are = buckets + buckets_opened (with_buckets s buckets) reply (len after.map) in
+      let then_are = buckets + buckets_added (with_buckets s buckets) reply (len after.map) in
       calm (with_buckets s buckets) (rest.last then_are) call calls c
       reply replies after falls answers (rest.run then_are);
 }

@@ -9,7 +9,7 @@ use Rattle.dbm_model.specs.Pairs.{Contents, key_cmp, IsAllowed}
 use Rattle.dbm_model.specs.Holding.{IsWithin}
 use Rattle.dbm_model.specs.Sizes.{home}
 use Rattle.dbm_model.specs.States.{NotBegun, State, Handle, fresh, flagged}
-use Rattle.dbm_model.specs.Steps.{Case, Finds, Changes, fetched, case_for, case_of, holds_far, takes_memory, Answers, Suffers, Step, Run, buckets_opened}
+use Rattle.dbm_model.specs.Steps.{Case, Finds, Changes, fetched, case_for, case_of, holds_far, takes_memory, Answers, Suffers, Step, Run, buckets_added}
 use Rattle.dbm_model.proofs.HoldingLemmas.{stays_within}
 use Rattle.dbm_model.proofs.RunLemmas.{adds, none_yet, one_more}
 use Rattle.dbm_model.proofs.RuleLemmas.{ByCase, falls}
@@ -33,7 +33,7 @@ abbrev pub only : Contents
 only = insert empty (one 0x61) (one 0x01)
 
 pub step : (s after : State) (call : Call) (c : Case) (reply : Reply)
-    → buckets_opened (at s) reply (len after.map) ≡ 0 → case_of (at s) call ≡ c
+    → buckets_added (at s) reply (len after.map) ≡ 0 → case_of (at s) call ≡ c
     → Answers s c reply after → Step (at s) call reply (at after)
 step s after call c reply none rule answers = record {
   counts = omega arith;
@@ -49,8 +49,8 @@ store_rule = adds nine_v1 empty None NotBegun (one 0x61) (one 0x01) refl (get-em
     (none_yet 9 (omega arith))
 
 -- one pair is no reason for another bucket
-one_bucket : buckets_opened (start empty) Stored (len only) ≡ 0
-one_bucket = ap (buckets_opened (start empty) Stored) (one_more (one 0x61) (one 0x01))
+one_bucket : buckets_added (start empty) Stored (len only) ≡ 0
+one_bucket = ap (buckets_added (start empty) Stored) (one_more (one 0x61) (one 0x01))
 
 pub is_stored : Step (start empty) store Stored (start only)
 is_stored = step (fresh empty nine_v1 true) (fresh only nine_v1 true) store (Changes Stored (fresh only nine_v1 true)) Stored
@@ -181,7 +181,7 @@ stopped_store = (
 )
 
 pub fetches : (map : Contents) (reply : Reply) → IsPlain map → Contains doubt (Holding map nine_v1)
-    → buckets_opened (start map) reply (len map) ≡ 0 → case_of (start map) fetch ≡ Finds reply
+    → buckets_added (start map) reply (len map) ≡ 0 → case_of (start map) fetch ≡ Finds reply
     → SessionStep disk doubt (reopens (fetch ∷ [])) (Rested (reply ∷ [])) (Holding map nine_v1 ∷ [])
 fetches map reply plain among none rule = (
   start map,

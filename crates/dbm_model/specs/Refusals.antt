@@ -35,7 +35,7 @@ abbrev pub HasFar : Contents → Key → Type 0
 HasFar map key =
     (content : List ℕ) × (get map key ≡ Some content) × (2026 < length key + length content)
 
--- why a call takes memory: a store opens a bucket, or the content that is stored, replaced, deleted
+-- why a call takes memory: a store adds a bucket, or the content that is stored, replaced, deleted
 -- or fetched lies in pages of its own
 abbrev pub NeedsMemory : Handle → Call → Type 0
 NeedsMemory h (Store key content mode) =

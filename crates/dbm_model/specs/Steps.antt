@@ -137,11 +137,11 @@ abbrev pub holds_far : Key → Option (List ℕ) → Bool
 holds_far key None = false
 holds_far key (Some old) = is_far (key, old)
 
--- there are eight pairs to a bucket, so a further one opens a bucket
+-- there are eight pairs to a bucket, so a further one adds a bucket
 abbrev pub is_full : Handle → Bool
 is_full h = nat_le (8 * h.buckets) (len h.state.map)
 
--- a store takes memory, by what the key has: one that opens a bucket, and one that writes a content
+-- a store takes memory, by what the key has: one that adds a bucket, and one that writes a content
 -- into pages of its own or gives such pages back
 abbrev pub store_takes : Handle → Key → List ℕ → Mode → Option (List ℕ) → Bool
 store_takes h key content Insert (Some old) = false
@@ -190,9 +190,9 @@ growth h Stored = len h.state.map + most_taken h.state.bounds.version
 growth h reply = 0
 
 -- how many buckets it opens, where there are then so many pairs
-abbrev pub buckets_opened : Handle → Reply → ℕ → ℕ
-buckets_opened h Stored pairs = if nat_lt (8 * h.buckets) pairs then 1 else 0
-buckets_opened h reply pairs = 0
+abbrev pub buckets_added : Handle → Reply → ℕ → ℕ
+buckets_added h Stored pairs = if nat_lt (8 * h.buckets) pairs then 1 else 0
+buckets_added h reply pairs = 0
 
 -- from one handle, the call may get this reply and leave the other
 pub record Step (before : Handle) (call : Call) (reply : Reply) (after : Handle) : Type 0 where
@@ -201,7 +201,7 @@ pub record Step (before : Handle) (call : Call) (reply : Reply) (after : Handle)
   pub pages : (before.pages ≤ after.pages) × (after.pages ≤ before.pages + growth before reply)
   -- none is added beyond what a database of the bounds needs
   pub bounded : (after.pages ≡ before.pages) ⊎ (after.pages ≤ home before.state.bounds)
-  pub buckets : after.buckets ≡ before.buckets + buckets_opened before reply (len after.state.map)
+  pub buckets : after.buckets ≡ before.buckets + buckets_added before reply (len after.state.map)
   pub answers : Answers before.state (case_of before call) reply after.state
       ⊎ Suffers before call (case_of before call) reply after
 

@@ -11,7 +11,7 @@ use crate::bounds::Bounds;
 use crate::changes::changes_of;
 use crate::reading::read_calls;
 use crate::report::{Rehearsed, write_counts};
-use crate::stopping::{Rehearsal, pairs_before, unstopped};
+use crate::stopping::{Rehearsal, pairs_before, run_unstopped};
 use dbm_fault::EngineFault;
 use dbm_file::Call;
 use dbm_progress::Progress;
@@ -75,7 +75,7 @@ fn rehearse_calls<P: Progress>(
     ensures only { IsErrAmong result database_faults }
 {
     let before = pairs_before(alloc, dev, made)?;
-    let (replies, device_calls) = unstopped(alloc, dev, made, calls)?;
+    let (replies, device_calls) = run_unstopped(alloc, dev, made, calls)?;
     let rehearsal = Rehearsal {
         alloc,
         dev,

@@ -32,7 +32,7 @@ pub fn open_device(
     };
     match Db::open(alloc, dev, how) {
         Ok(db) => Ok(db),
-        Err((_, fault)) => Err(told(fault)),
+        Err((_, fault)) => Err(engine_fault_of(fault)),
     }
 }
 
@@ -74,13 +74,13 @@ fn copied(alloc: Global, lent: Result<Option<&[u8]>, Fault>) -> Result<Option<Ve
             Err(_) => Err(EngineFault::Memory),
         },
         Ok(None) => Ok(None),
-        Err(fault) => Err(told(fault)),
+        Err(fault) => Err(engine_fault_of(fault)),
     }
 }
 
 /// A fault of a database in memory. Its device fails only where a growth is refused, and of the
 /// others only damage explains those that it can't answer.
-pub fn told(fault: Fault) -> EngineFault
+pub fn engine_fault_of(fault: Fault) -> EngineFault
     ensures { IsAmong result database_faults }
 {
     match fault {

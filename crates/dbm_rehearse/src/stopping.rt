@@ -8,7 +8,7 @@ ghost use Rattle.dbm_rehearse.specs.Faults.{database_faults};
 use crate::bounds::Bounds;
 use crate::changes::{Change, Pairs, acknowledged, is_kept};
 use crate::choices::{CHOICES, Choice, marks};
-use crate::finding::{open_device, pairs_in, told};
+use crate::finding::{engine_fault_of, open_device, pairs_in};
 use crate::report::{Outcome, Rehearsed};
 use dbm_fault::EngineFault;
 use dbm_file::{Call, Fault, Reply};
@@ -66,7 +66,7 @@ impl<'a> Rehearsal<'a> {
         let acknowledged = acknowledged(replies_of(&stopped.ending)?);
         let mut outcomes = Vec::new(self.alloc);
         for choice in CHOICES {
-            outcomes.push(self.reopened(&left, acknowledged, choice, stop)?)?;
+            outcomes.push(self.reopen(&left, acknowledged, choice, stop)?)?;
         }
         Ok(worst(outcomes.as_slice()))
     }
@@ -79,7 +79,7 @@ impl<'a> Rehearsal<'a> {
     }
 
     // How it ends where these unsynced writes have happened.
-    fn reopened(
+    fn reopen(
         &self,
         left: &MemDev,
         acknowledged: usize,
@@ -123,7 +123,7 @@ impl<'a> Rehearsal<'a> {
 }
 
 /// The replies of the session that isn't stopped, and how many device calls it makes.
-pub fn unstopped(
+pub fn run_unstopped(
     alloc: Global,
     dev: &MemDev,
     made: Option<Bounds>,
@@ -146,7 +146,7 @@ pub fn unstopped(
             }
             Ok((replies, device_calls))
         }
-        Ending::NotOpened(fault) => Err(told(fault)),
+        Ending::NotOpened(fault) => Err(engine_fault_of(fault)),
         Ending::NoMemory | Ending::Unsettled(..) | Ending::Broke(_) | Ending::BrokeGroup(_) => {
             Err(EngineFault::Memory)
         }

@@ -6,9 +6,9 @@ ghost use Rattle.dbm_file.specs.Opened.{IsNewlyOpened};
 ghost use Rattle.dbm_tool.specs.Files.{IsClosed, IsOpening, RefusesOpening, there};
 
 use crate::EngineFault;
-use crate::waiting::opened;
+use crate::waiting::open_waiting;
 use dbm_command_line::Spelling;
-use dbm_commands::{Failure, Outcome, closed};
+use dbm_commands::{Failure, Outcome, close_after};
 use dbm_engines::BadLine;
 use dbm_file::{Access, Db, Fault, Flaw, OpenHow, Refusal, Version, open_named};
 use page_cache::CachedPages;
@@ -97,14 +97,14 @@ impl<T: Files<File = File> + Clock> Host<'_, T> {
     {
         let rt = self.rt;
         let alloc = self.alloc;
-        match opened(rt, self.wait, || open_once(rt, alloc, file, how)) {
+        match open_waiting(rt, self.wait, || open_once(rt, alloc, file, how)) {
             Ok(db) => Ok(db),
-            Err(refusal) => Err(self.refused(refusal)),
+            Err(refusal) => Err(self.keep_cause(refusal)),
         }
     }
 
     /// The fault of a refused opening, whose cause is kept.
-    pub fn refused(&mut self, refusal: Refusal) -> Fault
+    pub fn keep_cause(&mut self, refusal: Refusal) -> Fault
         ensures fault { result ≡ refusal.fault }
         ensures cause { self.new.cause ≡ refusal.system }
     {
@@ -124,7 +124,7 @@ impl<T: Files<File = File> + Clock> Host<'_, T> {
         ensures told { OnOk done (result ≡ Err (Failure.Fault (EngineFault.Db Fault.Device))
             → IsSome self.new.cause) }
     {
-        let (dev, ended) = closed(db, done);
+        let (dev, ended) = close_after(db, done);
         self.cause = dev.last_error();
         ended
     }

@@ -137,14 +137,19 @@ pub fn tool<
             }
             let told = told_by(alloc, cause_of(done, host.cause, input, output));
             let known = known_of(request.plan, done, &host, text_of(&told));
-            ended_by(done, asked(request.verbose, environment), known, faults)
+            ended_by(
+                done,
+                wants_more(request.verbose, environment),
+                known,
+                faults,
+            )
         }
         Err(WordsError::Memory) => out_of_memory(environment, faults),
         Err(WordsError::Help(text)) => match show(output, WordsError::Help(text)) {
-            Ok(()) => ended(Ok(Outcome::Done), faults),
+            Ok(()) => tell_end(Ok(Outcome::Done), faults),
             Err(_) => unwritten_help(alloc, environment, output.first_error(), faults),
         },
-        Err(error) => refused(error, faults),
+        Err(error) => tell_misuse(error, faults),
     }
 }
 
@@ -172,7 +177,7 @@ fn unread() -> Exit
 }
 
 /// Whether more than the line of a fault is asked for.
-fn asked(verbose: bool, environment: Environment) -> bool
+fn wants_more(verbose: bool, environment: Environment) -> bool
     ensures { result ≡ (verbose || environment.verbose) }
 {
     verbose || environment.verbose
@@ -191,7 +196,7 @@ fn unwritten_help<F: Write>(
 {
     let told = told_by(alloc, error);
     let known = Known::of_no_file(text_of(&told));
-    failed(
+    tell_failure(
         Failure::Fault(EngineFault::Write),
         environment.verbose,
         known,
@@ -212,18 +217,18 @@ fn ended_by<F: Write>(
         known.entry.line result.told (F.contents faults.old) (F.contents faults.new)) }
 {
     match done {
-        Ok(outcome) => ended(Ok(outcome), faults),
-        Err(failure) => failed(failure, more, known, faults),
+        Ok(outcome) => tell_end(Ok(outcome), faults),
+        Err(failure) => tell_failure(failure, more, known, faults),
     }
 }
 
 /// The end of a plan that failed.
-fn failed<F: Write>(failure: Failure, more: bool, known: Known<'_>, faults: &mut F) -> Exit
+fn tell_failure<F: Write>(failure: Failure, more: bool, known: Known<'_>, faults: &mut F) -> Exit
     ensures status { result.status ≡ status_of (Err failure) }
     ensures line { TellsMore more (option_map (λ name. name.now) known.entry.file)
         known.entry.line result.told (F.contents faults.old) (F.contents faults.new) failure }
 {
-    let exit = ended(Err(failure), faults);
+    let exit = tell_end(Err(failure), faults);
     if !exit.told || !more || !is_fault(failure) {
         return exit;
     }
@@ -249,7 +254,7 @@ pub fn out_of_memory<F: Write>(environment: Environment, faults: &mut F) -> Exit
     ensures line { TellsMore environment.verbose None None result.told (F.contents faults.old)
         (F.contents faults.new) (Failure.Fault EngineFault.Memory) }
 {
-    failed(
+    tell_failure(
         Failure::Fault(EngineFault::Memory),
         environment.verbose,
         Known::of_no_file(None),
@@ -263,7 +268,7 @@ pub fn not_text<F: Write>(faults: &mut F) -> Exit
     ensures line { Tells result.told (F.contents faults.old) (F.contents faults.new)
         (failure_line Failure.NotText) }
 {
-    ended(Err(Failure::NotText), faults)
+    tell_end(Err(Failure::NotText), faults)
 }
 
 /// Tells on `faults` that `DBMTOOL_WAIT` is no number of seconds, for which `tool` has no words.
@@ -281,7 +286,7 @@ pub fn bad_wait<F: Write>(faults: &mut F) -> Exit
 }
 
 /// The end of a plan: a failure is told in one line.
-fn ended<F: Write>(done: Result<Outcome, Failure>, faults: &mut F) -> Exit
+fn tell_end<F: Write>(done: Result<Outcome, Failure>, faults: &mut F) -> Exit
     ensures status { result.status ≡ status_of done }
     ensures quiet { OnOk done (faults.new ≡ faults.old) }
     ensures line { IfErr done (λ failure. Tells result.told (F.contents faults.old)
@@ -310,7 +315,7 @@ fn failure_status(failure: Failure) -> u8
 
 /// The end where the words gave no plan, and `error` says why. The line of `NoPlan` is written
 /// here, since no contract says what an error displays.
-fn refused<F: Write>(error: WordsError, faults: &mut F) -> Exit
+fn tell_misuse<F: Write>(error: WordsError, faults: &mut F) -> Exit
     ensures status { result.status ≡ 3 }
     ensures line { error ≡ WordsError.NoPlan → Tells result.told (F.contents faults.old)
         (F.contents faults.new) no_command_line }

@@ -6,7 +6,7 @@ ghost use Rattle.dbm_tool.specs.Plans.{EndsRehearsal};
 use crate::commands::unwritten;
 use crate::host::Host;
 use crate::versions::file_version;
-use crate::waiting::opened;
+use crate::waiting::open_waiting;
 use dbm_command_line::{Plan, Source, Version};
 use dbm_commands::{Failure, Outcome};
 use dbm_file::{FILE_SECTORS, Fault, Refusal, needed_sectors_of, refuse_pipe};
@@ -105,13 +105,13 @@ fn copy_of<T: Files<File = File> + Clock>(
 ) -> Result<MemDev, Fault> {
     let rt = host.rt;
     let alloc = host.alloc;
-    match opened(
+    match open_waiting(
         rt,
         host.wait,
         || content_of(rt, alloc, name).map_err(refusal),
     ) {
         Ok(bytes) => device_with(alloc, FILE_SECTORS, bytes.as_slice()).map_err(|_| Fault::Memory),
-        Err(refusal) => Err(host.refused(refusal)),
+        Err(refusal) => Err(host.keep_cause(refusal)),
     }
 }
 

@@ -40,7 +40,7 @@ pub fn replace_table<T: Files<File = File>, R: BufRead, P: Progress>(
     host.bad_line = bad_line(load_stop, spelling);
     match replaced {
         Ok(_pairs) => Ok(Outcome::Done),
-        Err(stop) => Err(stopped(host, stop)),
+        Err(stop) => Err(failure_by(host, stop)),
     }
 }
 
@@ -55,7 +55,7 @@ pub fn resize_table<T: Files<File = File>, P: Progress>(
 {
     match resize(host.rt, host.alloc, file, limit, progress) {
         Ok(_pairs) => Ok(Outcome::Done),
-        Err(stop) => Err(stopped(host, stop)),
+        Err(stop) => Err(failure_by(host, stop)),
     }
 }
 
@@ -70,12 +70,12 @@ pub fn copy_table<T: Files<File = File>, P: Progress>(
 {
     match backup(host.rt, host.alloc, file, to, progress) {
         Ok(_pairs) => Ok(Outcome::Done),
-        Err(stop) => Err(stopped(host, stop)),
+        Err(stop) => Err(failure_by(host, stop)),
     }
 }
 
 /// The failure by what stopped it, whose cause is kept.
-fn stopped<T>(host: &mut Host<'_, T>, stop: Stop) -> Failure
+fn failure_by<T>(host: &mut Host<'_, T>, stop: Stop) -> Failure
     ensures { result ≡ Failure.Fault stop.fault }
 {
     host.cause = stop.system;

@@ -5,7 +5,7 @@ ghost use Rattle.dbm_tool.specs.Endings.{EndsAs};
 use crate::EngineFault;
 use crate::commands::unwritten;
 use crate::host::Host;
-use crate::waiting::opened;
+use crate::waiting::open_waiting;
 use dbm_command_line::Plan;
 use dbm_commands::{Failure, Outcome};
 use dbm_file::{Fault, Refusal, open_path};
@@ -110,9 +110,9 @@ fn device_of<T: Files<File = File> + Clock>(
 ) -> Result<(FileDev, u64), Fault> {
     let rt = host.rt;
     let alloc = host.alloc;
-    match opened(rt, host.wait, || device(rt, alloc, name)) {
+    match open_waiting(rt, host.wait, || device(rt, alloc, name)) {
         Ok(found) => Ok(found),
-        Err(refusal) => Err(host.refused(refusal)),
+        Err(refusal) => Err(host.keep_cause(refusal)),
     }
 }
 
@@ -123,7 +123,7 @@ fn device<T: Files<File = File>>(
     name: &str,
 ) -> Result<(FileDev, u64), Refusal> {
     let Ok(path) = format!(in alloc; "{name}.db") else {
-        return Err(untold(Fault::Memory));
+        return Err(without_cause(Fault::Memory));
     };
     let dev = open_path(rt, path.as_str(), false, false).map_err(refusal)?;
     match fs::metadata(rt, path.as_str()) {
@@ -138,8 +138,8 @@ fn device<T: Files<File = File>>(
 /// The refusal of a file that can't be opened.
 fn refusal(fault: FileFault) -> Refusal {
     match fault {
-        FileFault::Memory => untold(Fault::Memory),
-        FileFault::Missing => untold(Fault::Missing),
+        FileFault::Memory => without_cause(Fault::Memory),
+        FileFault::Missing => without_cause(Fault::Missing),
         FileFault::Device(error) => Refusal {
             fault: Fault::Device,
             system: Some(error),
@@ -148,7 +148,7 @@ fn refusal(fault: FileFault) -> Refusal {
 }
 
 /// A refusal of which the system tells nothing.
-fn untold(fault: Fault) -> Refusal {
+fn without_cause(fault: Fault) -> Refusal {
     Refusal {
         fault,
         system: None,

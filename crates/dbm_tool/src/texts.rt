@@ -18,7 +18,7 @@ use crate::{
     load_text_engine, script_engine,
 };
 use dbm_command_line::{Plan, Source, Spelling};
-use dbm_commands::{Failure, Outcome, flushed};
+use dbm_commands::{Failure, Outcome, flush_after};
 use dbm_engines::LoadStop;
 use dbm_file::{Access, Database};
 use dbm_lines::TextForm;
@@ -45,7 +45,7 @@ pub fn list<T: Files<File = File> + Clock, O: Write, P: Progress>(
 {
     let mut db = host.open_there(file, Access::ReadOnly)?;
     let done = print_keys(host.alloc, &mut db, spelling, output, progress);
-    host.close(db, flushed(done, output))
+    host.close(db, flush_after(done, output))
 }
 
 /// Prints the pairs.
@@ -63,7 +63,7 @@ pub fn dump<T: Files<File = File> + Clock, O: Write, P: Progress>(
 {
     let mut db = host.open_there(file, Access::ReadOnly)?;
     let done = print_pairs(host.alloc, &mut db, spelling, output, progress);
-    host.close(db, flushed(done, output))
+    host.close(db, flush_after(done, output))
 }
 
 /// Stores the pairs of a text.
@@ -83,7 +83,7 @@ pub fn load<T: Files<File = File> + Clock, R: BufRead, P: Progress>(
     let loaded = load_pairs(host.alloc, &mut db, spelling, group, input, progress);
     host.line = refused_line(loaded.err());
     host.bad_line = bad_line(loaded.err(), spelling);
-    host.close(db, told(loaded))
+    host.close(db, load_outcome(loaded))
 }
 
 /// Runs a script, whose lines are spelled so.
@@ -103,7 +103,7 @@ pub fn script<T: Files<File = File> + Clock, R: BufRead, O: Write>(
 {
     let mut db = host.open_there(file, access)?;
     let done = script_engine(host.alloc, &mut db, form_of(spelling), input, output);
-    host.close(db, flushed(done, output))
+    host.close(db, flush_after(done, output))
 }
 
 /// Prints the keys in the form of this spelling.
@@ -179,7 +179,7 @@ pub fn form_of(spelling: Spelling) -> TextForm
 }
 
 /// How a load ended, as a command.
-fn told(ended: Result<(), LoadStop>) -> Result<Outcome, Failure>
+fn load_outcome(ended: Result<(), LoadStop>) -> Result<Outcome, Failure>
     ensures { result ≡ told ended }
 {
     match ended {

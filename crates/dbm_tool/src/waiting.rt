@@ -15,7 +15,7 @@ const PAUSE: u64 = 100;
 
 /// Opens a file by `opening`, which is tried again, ten times a second and for so many seconds, while
 /// another program has the file open. Of no seconds it is tried once.
-pub fn opened<T, C: Clock, F: Fn() -> Result<T, Refusal>>(
+pub fn open_waiting<T, C: Clock, F: Fn() -> Result<T, Refusal>>(
     clock: &C,
     seconds: u32,
     opening: F,

@@ -1,7 +1,7 @@
 //! Sectors in memory, and devices that fail.
 
 use crate::sectors::{ends, first_bytes, four_from, sector_of, set_four, set_sector};
-use sect_dev::{DevFault, FailLate, FailOnce, Failing, Fuse, MemDev, Plan, SectorDev};
+use sect_dev::{DevFault, FailLate, FailOnce, Failing, Fuse, MemDev, Schedule, SectorDev};
 use std::alloc::Global;
 use std::test::Fail;
 
@@ -108,7 +108,7 @@ fn calls_passed(dev: &mut impl SectorDev) -> [usize; 4] {
 
 /// Whether those calls pass as the first four numbers say, and leave the device below as the others
 /// say: the first bytes of its two sectors, and how many writes are pending.
-fn ends_as<P: Plan>(mut dev: Failing<MemDev, P>, wanted: [usize; 7]) -> Result<bool, DevFault> {
+fn ends_as<P: Schedule>(mut dev: Failing<MemDev, P>, wanted: [usize; 7]) -> Result<bool, DevFault> {
     let [write, sync, second, read] = calls_passed(&mut dev);
     let mut inner = dev.into_inner();
     let [zero, one] = first_bytes(&mut inner)?;

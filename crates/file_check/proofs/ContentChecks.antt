@@ -1,7 +1,7 @@
 -- The pages of a content, looked at and marked one after the other.
 use Rattle.std.proofs.Common.{◌≡◌, ℕ, ◌+◌, ◌-◌, ◌*◌, ◌<◌, ◌≤◌, min, Bool, List, [], ◌∷◌, ◌++◌, length, take, drop, refl, sym, ap, subst, ◌∙◌, append_assoc, append-nil, arith}
 use Rattle.std.specs.List.{AllByRecursion}
-use Rattle.std.proofs.lemmas.List.{take_all, take-append-le, drop-append-le, drop_all, length-append, length-drop, length-take}
+use Rattle.std.proofs.lemmas.List.{length-append, length-drop, length-take}
 use Rattle.page_model.specs.Chain.{pages_long}
 use Rattle.page_model.specs.PairLists.{AreBytes}
 use Rattle.page_model.specs.Pages.{Body, ContentPage}
@@ -10,59 +10,12 @@ use Rattle.page_model.proofs.Chains.{AllByRecursion-append}
 use Rattle.file_check.specs.Marks.{AreMarked, MayBeSeen}
 use Rattle.file_check.proofs.Seen.{may_front}
 use Rattle.content_pages.proofs.ContentTexts.{one_next, length-part}
-use Rattle.content_pages.proofs.ContentWalks.{AreHeld, IsPart, said_too}
+use Rattle.content_pages.proofs.ContentWalks.{AreHeld, IsPart, said_too, held_more, held_read, held_begins}
 use Rattle.file_check.specs.BucketChains.{AreContentPages, IsContentChecked}
 use Rattle.file_check.proofs.PageBytes.{bytes_of_take, bytes_of_drop, all_bytes}
 use Rattle.file_check.proofs.SeenPages.{in_file, times_parts, times_own}
 
 -- ---- pages that say a content so far
-
--- one page more
-held_more : (at : ℕ → Body) (first n next : ℕ) (pages content part : List ℕ)
-    → AreHeld at first pages content n → length content ≡ 2032 * length pages → 1 ≤ n
-    → length part ≤ 2032 → at n ≡ ContentPage next (filled part)
-    → AreHeld at first (pages ++ n ∷ []) (content ++ part) next
-held_more at first n next [] content part held long some le says =
-    let bytes : content ++ part ≡ part = ap (λ (xs : List ℕ). xs ++ part) held.1 in (
-      held.0,
-      some,
-      (
-        next,
-        says ∙ ap (λ (xs : List ℕ). ContentPage next (filled xs))
-            (sym (ap (take 2032) bytes ∙ take_all 2032 part le)),
-        (refl, ap (drop 2032) bytes ∙ drop_all 2032 part le),
-      ),
-    )
-held_more at first n next (m ∷ pages) content part held long some le says =
-    let many : 2032 ≤ length content = omega (arith, long) in
-    let later : List ℕ = drop 2032 content in
-    let size : length later ≡ 2032 * length pages =
-    omega (arith, long, length-drop 2032 content) in (
-      held.0,
-      held.1,
-      (
-        held.2.0,
-        held.2.1 ∙ ap (λ (xs : List ℕ). ContentPage held.2.0 (filled xs))
-            (sym (take-append-le 2032 content part many)),
-        subst (λ (xs : List ℕ). AreHeld at held.2.0 (pages ++ n ∷ []) xs next)
-            (sym (drop-append-le 2032 content part many))
-            (held_more at held.2.0 n next pages later part held.2.2 size some le says),
-      ),
-    )
-
-held_begins : (at : ℕ → Body) (first : ℕ) (pages content : List ℕ)
-    → AreHeld at first pages content 0 → first ≡ first_of pages
-held_begins at first [] content held = held.0
-held_begins at first (n ∷ pages) content held = held.0
-
-held_read : (at : ℕ → Body) (first : ℕ) (pages content : List ℕ) → AreHeld at first pages content 0
-    → AreRead at (content_bodies pages content)
-held_read at first [] content held = tt
-held_read at first (n ∷ pages) content held = (
-  held.2.1 ∙ ap (λ (next : ℕ). ContentPage next (filled (take 2032 content)))
-      (held_begins at held.2.0 pages (drop 2032 content) held.2.2),
-  held_read at held.2.0 pages (drop 2032 content) held.2.2,
-)
 
 -- so many pages were read and marked, and so many bytes are left
 pub record IsPartChecked (at : ℕ → Body) (end first long n step left : ℕ) (marks : List Bool)

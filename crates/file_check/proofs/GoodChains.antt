@@ -17,8 +17,8 @@ use Rattle.bucket_chain.specs.Links.{SaysLink}
 use Rattle.bucket_chain.specs.Chains.{ReadLeaf, chain_read, number_or, IsChainAt}
 use Rattle.bucket_chain.proofs.Walks.{leaf_of, IsHere, read_as, walk_is_here, one_next}
 use Rattle.file_check.specs.BucketChains.{AreInBucket, AreEntriesOf, AreNewInChain, IsBucketChain}
-use Rattle.file_check.proofs.ChainParts.{AreParts, parts_of}
-use Rattle.file_check.proofs.LeavesSound.{leaves_sound}
+use Rattle.bucket_chain.proofs.ChainContents.{AreParts, parts_of}
+use Rattle.bucket_chain.proofs.LeavesSound.{leaves_sound}
 use Rattle.file_check.proofs.OneChain.{IsStored, are_stored, one_chain}
 use Rattle.file_check.proofs.PartChains.{Any, IsPart}
 use Rattle.file_check.proofs.RecordTimes.{pairs_in-append}

@@ -2,7 +2,6 @@ pub mod AllChains
 pub mod ApartRecords
 pub mod BucketReads
 pub mod BucketRecords
-pub mod ChainParts
 pub mod ChainReads
 pub mod ContentChecks
 pub mod EntryChecks
@@ -11,7 +10,6 @@ pub mod GoodChains
 pub mod GoodFiles
 pub mod HeadReads
 pub mod KeyPasses
-pub mod LeavesSound
 pub mod OneChain
 pub mod OneRead
 pub mod PageBytes

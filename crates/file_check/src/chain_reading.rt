@@ -3,9 +3,9 @@
 ghost use Rattle.std.specs.Prelude.{◌≡◌, ◌⊎◌, ◌↔◌, ◌<◌, ◌≤◌, ℕ, List, length, take as first_part, drop, slice_index, IfOk, OnOk, IsErrOf, IsTrue};
 ghost use Rattle.page_model.specs.PageBodies.{filled};
 ghost use Rattle.page_model.specs.Pages.{ContentPage, Record};
-ghost use Rattle.page_io.specs.Answers.{HasDeviceCause};
+ghost use Rattle.page_io.specs.Calls.{IsReadingCall};
 ghost use Rattle.page_io.specs.Store.{IsKnown};
-ghost use Rattle.page_io.specs.Views.{body_at, ReadsOnly};
+ghost use Rattle.page_io.specs.Views.{body_at};
 ghost use Rattle.page_io.specs.Versions.{model_version};
 ghost use Rattle.page_io.specs.declared.store.PageFault.TheVariants.{Damaged};
 ghost use Rattle.page_io.specs.BucketPages.{page_records};
@@ -53,8 +53,7 @@ pub fn read_link<S: PageStore, W: Watch>(
     watch: &mut W,
 ) -> Result<u32, PageFault>
     requires { (kind ≡ 3) ⊎ (kind ≡ 4) }
-    ensures reads { ReadsOnly S.PageStore store.old store.new }
-    ensures cause { HasDeviceCause (S.faults store.old) (S.faults store.new) result }
+    ensures reads { IsReadingCall S.PageStore store.old store.new result }
     ensures answer { IsWalkAnswer (S.state store.old) result }
     ensures known { OnOk result ((1 ≤ n) × IsKnown (S.state store.old) n) }
     ensures link { IfOk result (λ next.
@@ -104,8 +103,7 @@ pub fn check_part<S: PageStore, W: Watch>(
     watch: &mut W,
 ) -> Result<u32, PageFault>
     requires { long ≤ PER_PAGE }
-    ensures reads { ReadsOnly S.PageStore store.old store.new }
-    ensures cause { HasDeviceCause (S.faults store.old) (S.faults store.new) result }
+    ensures reads { IsReadingCall S.PageStore store.old store.new result }
     ensures answer { IsWalkAnswer (S.state store.old) result }
     ensures known { OnOk result ((1 ≤ n) × IsKnown (S.state store.old) n) }
     ensures bytes { OnOk result ((k : ℕ) → slice_index page.new.bytes k < 256) }

@@ -3,9 +3,9 @@
 ghost use Rattle.std.specs.Prelude.{◌≡◌, ◌≤◌, ◌++◌, ℕ, List, length, IfOk, IsErrOf};
 ghost use Rattle.lin_addr.specs.Shapes.{shape_of};
 ghost use Rattle.page_model.specs.Chain.{Chain, pages_in};
-ghost use Rattle.page_io.specs.Answers.{HasDeviceCause};
+ghost use Rattle.page_io.specs.Calls.{IsReadingCall};
 ghost use Rattle.page_io.specs.Versions.{model_version};
-ghost use Rattle.page_io.specs.Views.{body_at, ReadsOnly};
+ghost use Rattle.page_io.specs.Views.{body_at};
 ghost use Rattle.page_io.specs.declared.store.PageFault.TheVariants.{Damaged};
 ghost use Rattle.file_check.specs.Marks.{AreMarked, MayBeSeen};
 ghost use Rattle.bucket_chain.specs.WalkAnswers.{IsWalkAnswer};
@@ -36,9 +36,8 @@ pub fn check_chain<S: PageStore, W: Watch>(
     watch: &mut W,
 ) -> Result<u32, PageFault>
     requires { (S.state store.old).end ≤ length marks.old }
-    ensures reads { ReadsOnly S.PageStore store.old store.new }
+    ensures reads { IsReadingCall S.PageStore store.old store.new result }
     ensures length { length marks.new ≡ length marks.old }
-    ensures cause { HasDeviceCause (S.faults store.old) (S.faults store.new) result }
     ensures answer { IsWalkAnswer (S.state store.old) result }
     ensures told { IsTold (IsErrOf result Damaged) (W.has_told watch.old) (W.has_told watch.new) }
 

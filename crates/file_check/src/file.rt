@@ -4,8 +4,8 @@ ghost use Rattle.std.specs.Prelude.{◌≡◌, ◌≤◌, ◌↔◌, ◌++◌, �
 ghost use Rattle.page_model.specs.Pages as model;
 ghost use Rattle.page_model.specs.Pages.{MetaPage};
 ghost use Rattle.page_model.specs.Valid.{IsMeta};
-ghost use Rattle.page_io.specs.Answers.{HasDeviceCause};
-ghost use Rattle.page_io.specs.Views.{body_at, ReadsOnly};
+ghost use Rattle.page_io.specs.Calls.{IsReadingCall};
+ghost use Rattle.page_io.specs.Views.{body_at};
 ghost use Rattle.page_io.specs.declared.store.PageFault.TheVariants.{Damaged};
 ghost use Rattle.file_check.specs.Marks.{AreMarked, MayBeSeen};
 ghost use Rattle.seg_table.specs.MetaPages.{model_meta};
@@ -32,8 +32,7 @@ const NO_META: Flaw = Flaw {
 
 /// What the meta page says.
 fn check_meta<S: PageStore, W: Watch>(store: &mut S, watch: &mut W) -> Result<Meta, PageFault>
-    ensures reads { ReadsOnly S.PageStore store.old store.new }
-    ensures cause { HasDeviceCause (S.faults store.old) (S.faults store.new) result }
+    ensures reads { IsReadingCall S.PageStore store.old store.new result }
     ensures answer { IsWalkAnswer (S.state store.old) result }
     ensures told { IsTold (IsErrOf result Damaged) (W.has_told watch.old) (W.has_told watch.new) }
     ensures valid { IfOk result (λ meta. IsMeta (model_meta meta)) }
@@ -77,8 +76,7 @@ fn check_pages<S: PageStore, W: Watch>(
     requires marks { (S.state store.old).end ≤ length marks.old }
     requires meta { IsMeta (model_meta meta.now) }
     requires none { AreMarked marks.old (S.state store.old).end [] }
-    ensures reads { ReadsOnly S.PageStore store.old store.new }
-    ensures cause { HasDeviceCause (S.faults store.old) (S.faults store.new) result }
+    ensures reads { IsReadingCall S.PageStore store.old store.new result }
     ensures answer { IsWalkAnswer (S.state store.old) result }
     ensures told { IsTold (IsErrOf result Damaged) (W.has_told watch.old) (W.has_told watch.new) }
     ensures sound { S.honest store.old
@@ -132,8 +130,7 @@ pub fn verify<S: PageStore, W: Watch>(
     watch: &mut W,
 ) -> Result<u32, PageFault>
     requires { (S.state store.old).end ≤ length marks.old }
-    ensures reads { ReadsOnly S.PageStore store.old store.new }
-    ensures cause { HasDeviceCause (S.faults store.old) (S.faults store.new) result }
+    ensures reads { IsReadingCall S.PageStore store.old store.new result }
     ensures answer { IsWalkAnswer (S.state store.old) result }
     ensures told { IsTold (IsErrOf result Damaged) (W.has_told watch.old) (W.has_told watch.new) }
 

@@ -3,8 +3,8 @@
 ghost use Rattle.std.specs.Prelude.{◌≡◌, ◌≤◌, ◌<◌, ◌+◌, ◌*◌, ◌^◌, ◌++◌, ℕ, List, length, flat_map, IfOk, IsErrOf};
 ghost use Rattle.page_model.specs.Chain.{Chain, pages_in};
 ghost use Rattle.page_model.specs.Valid.{IsMeta};
-ghost use Rattle.page_io.specs.Answers.{HasDeviceCause};
-ghost use Rattle.page_io.specs.Views.{body_at, ReadsOnly};
+ghost use Rattle.page_io.specs.Calls.{IsReadingCall};
+ghost use Rattle.page_io.specs.Views.{body_at};
 ghost use Rattle.page_io.specs.declared.store.PageFault.TheVariants.{Damaged};
 ghost use Rattle.file_check.specs.Marks.{AreMarked, MayBeSeen};
 ghost use Rattle.seg_table.specs.MetaPages.{model_meta};
@@ -37,9 +37,8 @@ fn check_heads<S: PageStore, W: Watch>(
     requires marks { (S.state store.old).end ≤ length marks.old }
     requires few { count ≤ 508 }
     requires small { first + count < 2 ^ 32 }
-    ensures reads { ReadsOnly S.PageStore store.old store.new }
+    ensures reads { IsReadingCall S.PageStore store.old store.new result }
     ensures length { length marks.new ≡ length marks.old }
-    ensures cause { HasDeviceCause (S.faults store.old) (S.faults store.new) result }
     ensures answer { IsWalkAnswer (S.state store.old) result }
     ensures told { IsTold (IsErrOf result Damaged) (W.has_told watch.old) (W.has_told watch.new) }
     ensures sound { S.honest store.old → (seen : List ℕ)
@@ -87,9 +86,8 @@ fn check_segment<S: PageStore, W: Watch>(
     requires marks { (S.state store.old).end ≤ length marks.old }
     requires meta { IsMeta (model_meta meta.now) }
     requires within { s < length meta.now.segments.items }
-    ensures reads { ReadsOnly S.PageStore store.old store.new }
+    ensures reads { IsReadingCall S.PageStore store.old store.new result }
     ensures length { length marks.new ≡ length marks.old }
-    ensures cause { HasDeviceCause (S.faults store.old) (S.faults store.new) result }
     ensures answer { IsWalkAnswer (S.state store.old) result }
     ensures told { IsTold (IsErrOf result Damaged) (W.has_told watch.old) (W.has_told watch.new) }
     ensures sound { S.honest store.old → (seen : List ℕ)
@@ -136,9 +134,8 @@ pub fn check_buckets<S: PageStore, W: Watch>(
 ) -> Result<u32, PageFault>
     requires marks { (S.state store.old).end ≤ length marks.old }
     requires meta { IsMeta (model_meta meta.now) }
-    ensures reads { ReadsOnly S.PageStore store.old store.new }
+    ensures reads { IsReadingCall S.PageStore store.old store.new result }
     ensures length { length marks.new ≡ length marks.old }
-    ensures cause { HasDeviceCause (S.faults store.old) (S.faults store.new) result }
     ensures answer { IsWalkAnswer (S.state store.old) result }
     ensures told { IsTold (IsErrOf result Damaged) (W.has_told watch.old) (W.has_told watch.new) }
     ensures sound { S.honest store.old → (seen : List ℕ)

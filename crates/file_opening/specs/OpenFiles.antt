@@ -1,10 +1,11 @@
 -- What a file stands for that was opened.
-use Rattle.std.specs.Prelude.{◌≡◌, ℕ, Bool, true, if◌then◌else◌, Result, Ok, Err}
+use Rattle.std.specs.Prelude.{◌≡◌, ◌≤◌, ◌↔◌, ℕ, Bool, true, if◌then◌else◌, [], Result, Ok, Err, IfErr}
 use Rattle.std.specs.FinMap.{empty}
 use Rattle.file_opening.specs.Opening.{bounds_of}
 use Rattle.dbm_model.specs.Bounds.{Bounds}
+use Rattle.sect_dev.specs.Device.{MoreFaults}
 use Rattle.sect_dev.specs.declared.device.SectorDev as device
-use Rattle.page_io.specs.Store.{Settled}
+use Rattle.page_io.specs.Store.{Settled, StoreState}
 use Rattle.page_io.specs.Meaning.{ImageStandsFor}
 use Rattle.page_io.specs.declared.store.PageStore.{Ghosts}
 use Rattle.redo_area.specs.Pagers.{device_of}
@@ -14,6 +15,7 @@ use Rattle.dbm_model.specs.Pairs.{Contents}
 use Rattle.page_io.specs.Committing.{Holds}
 use Rattle.file_opening.specs.declared.open_how.OpenHow.{OpenHow}
 use Rattle.dbm_fault.specs.declared.fault.Fault.{Fault}
+use Rattle.dbm_fault.specs.declared.fault.Fault.TheVariants.{Device}
 use Rattle.file_opening.specs.declared.file.OpenFile.{OpenFile}
 
 -- the device that an opening was given, whatever it answers
@@ -21,6 +23,19 @@ abbrev pub device_left : {D : Type 0} {bound : device.Ghosts D} {s : Ghosts (Pag
     → Result (OpenFile (Pager D bound) s) (D × Fault) → D
 device_left (Ok file) = device_of file.store
 device_left (Err e) = e.0
+
+-- An opening keeps the device's honesty and loses none of its faults, of which Device is one more.
+pub record IsOpeningCall {D : Type 0} (dev : device.Ghosts D) {s : Ghosts (Pager D dev)} (old : D)
+    (result : Result (OpenFile (Pager D dev) s) (D × Fault)) : Type 0 where
+  pub honesty : dev.honest (device_left result) ↔ dev.honest old
+  pub later : dev.faults old ≤ dev.faults (device_left result)
+  pub fault : IfErr result (λ e. e.1 ≡ Device → MoreFaults (dev.faults old) (dev.faults e.0))
+
+-- Nothing is staged, and the store may commit: it is usable and writable.
+pub record IsReady (state : StoreState) : Type 0 where
+  pub idle : state.staged ≡ []
+  pub usable : state.usable ≡ true
+  pub writable : state.writable ≡ true
 
 -- a file as an opening leaves it
 pub record IsJustOpened {S : Type 0} {s : Ghosts S} (for_writing : Bool) (pages : ℕ)

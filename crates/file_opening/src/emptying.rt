@@ -3,7 +3,7 @@
 ghost use Rattle.std.specs.Prelude.{◌≡◌, ◌≢◌, ◌⊎◌, ◌↔◌, ◌≤◌, ◌<◌, ◌+◌, ◌/◌, ◌∷◌, [], true, IfOk, IfErr, OnOk, OnErr, IsErrOf, None, Some, map};
 ghost use Rattle.dbm_fault.specs.Among.{IsErrAmong};
 ghost use Rattle.std.specs.FinMap.{empty};
-ghost use Rattle.sect_dev.specs.Device.{Image, IsImageOf, LeavesOnly, MoreFaults};
+ghost use Rattle.sect_dev.specs.Device.{Image, IsImageOf, LeavesOnly};
 ghost use Rattle.sect_dev.specs.Moments.{IsOutcome};
 ghost use Rattle.page_model.specs.Placement.{fresh_placement};
 ghost use Rattle.page_model.specs.PageBodies.{meta_of as placement_meta};
@@ -19,7 +19,7 @@ ghost use Rattle.redo_area.specs.Pagers.{device_of};
 ghost use Rattle.seg_table.specs.MetaPages.{model_meta};
 ghost use Rattle.page_io.specs.Committing.{Holds, IsForgotten};
 ghost use Rattle.file_opening.specs.Opening.{emptying_fault, bounds_of};
-ghost use Rattle.file_opening.specs.OpenFiles.{device_left, IsJustOpened, StandsAs};
+ghost use Rattle.file_opening.specs.OpenFiles.{device_left, IsOpeningCall, IsReady, IsJustOpened, StandsAs};
 
 use crate::making::{pages_of_empty, room_refusal};
 use crate::{Fault, OpenFile, OpenHow};
@@ -46,9 +46,7 @@ fn stage_empty<S: PageStore>(store: &mut S, pages: &[Page; 3]) -> Result<u32, Pa
 
 /// Makes a file that of an empty database, in one commit.
 fn commit_empty<S: PageStore>(store: &mut S, meta: &Meta) -> Result<(), PageFault>
-    requires idle { (S.state store.old).staged ≡ [] }
-    requires usable { (S.state store.old).usable ≡ true }
-    requires writable { (S.state store.old).writable ≡ true }
+    requires ready { IsReady (S.state store.old) }
     requires limited { (1 ≤ meta.now.limit) × (meta.now.limit ≤ 1000000) }
     requires fresh { model_meta meta.now ≡ placement_meta
         (fresh_placement (model_meta meta.now).bounds) }
@@ -78,7 +76,7 @@ fn commit_empty<S: PageStore>(store: &mut S, meta: &Meta) -> Result<(), PageFaul
 
 /// The database of a file, emptied and of the limit and the version that are asked for, or the
 /// device and why it was not.
-pub fn emptied<D: SectorDev>(
+pub fn empty_database<D: SectorDev>(
     store: Pager<D>,
     how: OpenHow,
     sectors: u32,
@@ -109,13 +107,10 @@ pub fn emptied<D: SectorDev>(
         → IsImageOf (D.candidate e.0) after
         → settled (D.sectors (device_of store) / 4) after
         ≡ file_of (⟦<Pager<D> as PageStore>⟧.committed store)) }
-    ensures device { IfErr result
-        (λ e. e.1 ≡ Fault.Device → MoreFaults (D.faults (device_of store)) (D.faults e.0)) }
+    ensures device { IsOpeningCall D.SectorDev (device_of store) result }
     ensures only { IfErr result (λ e.
         (e.1 ≡ Fault.BadLimit) ⊎ ((e.1 ≡ Fault.TooSmall)
         ⊎ ((e.1 ≡ Fault.Memory) ⊎ ((e.1 ≡ Fault.NoRoom) ⊎ (e.1 ≡ Fault.Device))))) }
-    ensures honesty { D.honest (device_left result) ↔ D.honest (device_of store) }
-    ensures later { D.faults (device_of store) ≤ D.faults (device_left result) }
     ensures size { D.sectors (device_left result) / 4 ≡ D.sectors (device_of store) / 4 }
 {
     if let Some(fault) = room_refusal(how, sectors) {

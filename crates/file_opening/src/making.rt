@@ -1,8 +1,8 @@
 //! The making of an empty database.
 
-ghost use Rattle.std.specs.Prelude.{◌≡◌, ◌≢◌, ◌⊎◌, ◌↔◌, ◌≤◌, ◌/◌, ◌∷◌, [], true, IfOk, IfErr, IfSome, Some, None, Err, map};
+ghost use Rattle.std.specs.Prelude.{◌≡◌, ◌≢◌, ◌⊎◌, ◌≤◌, ◌/◌, ◌∷◌, [], true, IfOk, IfErr, IfSome, Some, None, Err, map};
 ghost use Rattle.std.specs.FinMap.{empty};
-ghost use Rattle.sect_dev.specs.Device.{Image, IsImageOf, LeavesOnly, MoreFaults};
+ghost use Rattle.sect_dev.specs.Device.{Image, IsImageOf, LeavesOnly};
 ghost use Rattle.page_model.specs.Meaning.{said_by};
 ghost use Rattle.page_model.specs.Pages.{MetaPage};
 ghost use Rattle.page_model.specs.Placement.{fresh_placement};
@@ -14,7 +14,7 @@ ghost use Rattle.page_io.specs.Store.{blank, bytes_of, page_of};
 ghost use Rattle.redo_area.specs.File.{settled};
 ghost use Rattle.seg_table.specs.MetaPages.{model_meta};
 ghost use Rattle.file_opening.specs.Opening.{room_fault, making_fault, bounds_of};
-ghost use Rattle.file_opening.specs.OpenFiles.{device_left, IsJustOpened, StandsAs};
+ghost use Rattle.file_opening.specs.OpenFiles.{device_left, IsOpeningCall, IsJustOpened, StandsAs};
 
 use crate::{Fault, OpenFile, OpenHow, needed_sectors_of};
 use page_io::{Page, PageStore};
@@ -68,7 +68,7 @@ pub fn pages_of_empty(meta: &Meta) -> [Page; 3]
 }
 
 /// A new database on a blank device.
-pub fn made<D: SectorDev>(
+pub fn make_database<D: SectorDev>(
     alloc: Global,
     dev: D,
     how: OpenHow,
@@ -92,13 +92,10 @@ pub fn made<D: SectorDev>(
         (λ e. e.1 ≢ Fault.Device → (making_fault how (D.sectors dev) ≡ Some e.1) × (e.0 ≡ dev)) }
     ensures untouched { IfSome (making_fault how (D.sectors dev))
         (λ fault. result ≡ Err (dev, fault)) }
-    ensures device { IfErr result
-        (λ e. e.1 ≡ Fault.Device → MoreFaults (D.faults dev) (D.faults e.0)) }
+    ensures device { IsOpeningCall D.SectorDev dev result }
     ensures only { IfErr result (λ e.
         (e.1 ≡ Fault.Device) ⊎ ((e.1 ≡ Fault.NotADatabase)
         ⊎ ((e.1 ≡ Fault.ReadOnly) ⊎ ((e.1 ≡ Fault.BadLimit) ⊎ (e.1 ≡ Fault.TooSmall))))) }
-    ensures honesty { D.honest (device_left result) ↔ D.honest dev }
-    ensures later { D.faults dev ≤ D.faults (device_left result) }
     ensures size { D.sectors (device_left result) ≡ D.sectors dev }
 {
     if let Some(fault) = making_refusal(how, dev.capacity()) {

@@ -1,9 +1,9 @@
 //! Opening a device.
 
-ghost use Rattle.std.specs.Prelude.{◌≡◌, ◌≢◌, ◌⊎◌, ◌↔◌, ◌≤◌, ◌<◌, ◌+◌, ◌/◌, ℕ, length, IfOk, IfErr, IfSome, Some, None, Err, true, false, if◌then◌else◌, map};
+ghost use Rattle.std.specs.Prelude.{◌≡◌, ◌≢◌, ◌⊎◌, ◌<◌, ◌+◌, ◌/◌, ℕ, length, IfOk, IfErr, IfSome, Some, None, Err, true, false, if◌then◌else◌, map};
 ghost use Rattle.std.specs.FinMap.{empty};
 ghost use Rattle.dbm_model.specs.Bounds.{Bounds};
-ghost use Rattle.sect_dev.specs.Device.{Image, IsImageOf, IsStable, LeavesOnly, MoreFaults};
+ghost use Rattle.sect_dev.specs.Device.{Image, IsImageOf, IsStable, LeavesOnly};
 ghost use Rattle.sect_dev.specs.Moments.{IsOutcome};
 ghost use Rattle.dbm_model.specs.Pairs.{Contents};
 ghost use Rattle.page_model.specs.Pages.{MetaPage};
@@ -17,11 +17,11 @@ ghost use Rattle.redo_area.specs.Pagers.{device_of};
 ghost use Rattle.sect_dev.specs.Reads.{OnlyReads};
 ghost use Rattle.redo_area.specs.Settling.{SettlesTo};
 ghost use Rattle.file_opening.specs.Opening.{writes, is_exclusive, early_fault, emptying_fault, RefusesMeta, RefusesOpened, IsRefusedOpening, AllAllow, EmptiesFile, MayRemain, AllStand, KeepsMetaOf, KeepsMeta, IsOpened, bounds_of};
-ghost use Rattle.file_opening.specs.OpenFiles.{device_left, IsJustOpened, StandsAs, OpensAs};
+ghost use Rattle.file_opening.specs.OpenFiles.{device_left, IsOpeningCall, IsJustOpened, StandsAs, OpensAs};
 ghost use Rattle.seg_table.specs.MetaPages.{model_meta};
 
-use crate::emptying::emptied;
-use crate::making::made;
+use crate::emptying::empty_database;
+use crate::making::make_database;
 use crate::{Fault, OpenFile, OpenHow};
 use page_io::{Page, PageStore};
 use redo_area::{OpenFault, Pager};
@@ -92,13 +92,10 @@ pub fn open_file<D: SectorDev>(
     ensures refused { D.honest dev → early_fault how (D.sectors dev) ≡ None
         → IfErr result (λ e. e.1 ≢ Fault.Device
         → IsRefusedOpening how (D.sectors dev) (D.candidate dev) (D.candidate e.0) e.1) }
-    ensures device { IfErr result
-        (λ e. e.1 ≡ Fault.Device → MoreFaults (D.faults dev) (D.faults e.0)) }
+    ensures device { IsOpeningCall D.SectorDev dev result }
     ensures only { IfErr result (λ e.
         (e.1 ≢ Fault.Broken) × (e.1 ≢ Fault.TooLong) × (e.1 ≢ Fault.Full) × (e.1 ≢ Fault.NoPass)
         × (e.1 ≢ Fault.Missing)) }
-    ensures honesty { D.honest (device_left result) ↔ D.honest dev }
-    ensures later { D.faults dev ≤ D.faults (device_left result) }
     ensures size { (D.sectors (device_left result) / 4 ≡ D.sectors dev / 4)
         × (how.truncate ≡ false → D.sectors (device_left result) ≡ D.sectors dev) }
 {
@@ -107,8 +104,8 @@ pub fn open_file<D: SectorDev>(
         return Err((dev, fault));
     }
     match Pager::open(alloc, dev, how.access.is_writable()) {
-        Ok(store) => opened(store, how, sectors),
-        Err((dev, OpenFault::Blank)) => made(alloc, dev, how),
+        Ok(store) => open_there(store, how, sectors),
+        Err((dev, OpenFault::Blank)) => make_database(alloc, dev, how),
         Err((dev, OpenFault::Memory)) => Err((dev, Fault::Memory)),
         Err((dev, OpenFault::Device)) => Err((dev, Fault::Device)),
         Err((dev, OpenFault::NotOurs)) => Err((dev, or_exists(how, Fault::NotADatabase))),
@@ -141,7 +138,7 @@ fn or_exists(how: OpenHow, fault: Fault) -> Fault
 }
 
 /// The file, where one may be there, emptied where that is asked.
-fn opened<D: SectorDev>(
+fn open_there<D: SectorDev>(
     store: Pager<D>,
     how: OpenHow,
     sectors: u32,
@@ -181,24 +178,21 @@ fn opened<D: SectorDev>(
         (writes how.access ≡ true → (after : Image) → IsImageOf (D.candidate e.0) after
         → settled (D.sectors (device_of store) / 4) after
         ≡ file_of (⟦<Pager<D> as PageStore>⟧.committed store))) }
-    ensures device { IfErr result
-        (λ e. e.1 ≡ Fault.Device → MoreFaults (D.faults (device_of store)) (D.faults e.0)) }
+    ensures device { IsOpeningCall D.SectorDev (device_of store) result }
     ensures only { IfErr result (λ e.
         (e.1 ≢ Fault.Broken) × (e.1 ≢ Fault.TooLong) × (e.1 ≢ Fault.Full) × (e.1 ≢ Fault.NoPass)
         × (e.1 ≢ Fault.Missing)) }
-    ensures honesty { D.honest (device_left result) ↔ D.honest (device_of store) }
-    ensures later { D.faults (device_of store) ≤ D.faults (device_left result) }
     ensures size { (D.sectors (device_left result) / 4 ≡ D.sectors (device_of store) / 4)
         × (how.truncate ≡ false → D.sectors (device_left result) ≡ D.sectors (device_of store)) }
 {
     if how.is_exclusive() {
         return Err((store.into_dev(), Fault::Exists));
     }
-    found_or_emptied(store, how, sectors)
+    find_or_empty(store, how, sectors)
 }
 
 /// The file as it is, or emptied where that is asked.
-fn found_or_emptied<D: SectorDev>(
+fn find_or_empty<D: SectorDev>(
     store: Pager<D>,
     how: OpenHow,
     sectors: u32,
@@ -239,28 +233,28 @@ fn found_or_emptied<D: SectorDev>(
         (writes how.access ≡ true → (after : Image) → IsImageOf (D.candidate e.0) after
         → settled (D.sectors (device_of store) / 4) after
         ≡ file_of (⟦<Pager<D> as PageStore>⟧.committed store))) }
-    ensures device { IfErr result
-        (λ e. e.1 ≡ Fault.Device → MoreFaults (D.faults (device_of store)) (D.faults e.0)) }
+    ensures device { IsOpeningCall D.SectorDev (device_of store) result }
     ensures only { IfErr result (λ e.
         (e.1 ≢ Fault.Broken) × (e.1 ≢ Fault.TooLong) × (e.1 ≢ Fault.Full) × (e.1 ≢ Fault.NoPass)
         × (e.1 ≢ Fault.Missing)) }
-    ensures honesty { D.honest (device_left result) ↔ D.honest (device_of store) }
-    ensures later { D.faults (device_of store) ≤ D.faults (device_left result) }
     ensures size { (D.sectors (device_left result) / 4 ≡ D.sectors (device_of store) / 4)
         × (how.truncate ≡ false → D.sectors (device_left result) ≡ D.sectors (device_of store)) }
 {
-    let found = found(store, how.access.is_writable());
+    let found = find_database(store, how.access.is_writable());
     if !how.truncate {
         return found;
     }
     match found {
-        Ok(file) => emptied(file.store, how, sectors),
+        Ok(file) => empty_database(file.store, how, sectors),
         Err(refused) => Err(refused),
     }
 }
 
 /// The file as it is.
-fn found<D: SectorDev>(store: Pager<D>, writable: bool) -> Result<OpenFile<Pager<D>>, (D, Fault)>
+fn find_database<D: SectorDev>(
+    store: Pager<D>,
+    writable: bool,
+) -> Result<OpenFile<Pager<D>>, (D, Fault)>
     requires fresh { IsFreshStore (D.sectors (device_of store) / 4) writable
         (⟦<Pager<D> as PageStore>⟧.state store) }
     ensures fresh { IfOk result (IsJustOpened writable (D.sectors (device_of store) / 4)) }
@@ -282,12 +276,9 @@ fn found<D: SectorDev>(store: Pager<D>, writable: bool) -> Result<OpenFile<Pager
     ensures refused { D.honest (device_of store)
         → IfErr result (λ e. e.1 ≢ Fault.Device
         → RefusesMeta (page_of (⟦<Pager<D> as PageStore>⟧.committed store) 1) e.1) }
-    ensures device { IfErr result
-        (λ e. e.1 ≡ Fault.Device → MoreFaults (D.faults (device_of store)) (D.faults e.0)) }
+    ensures device { IsOpeningCall D.SectorDev (device_of store) result }
     ensures only { IfErr result (λ e.
         (e.1 ≡ Fault.Device) ⊎ ((e.1 ≡ Fault.Version) ⊎ (e.1 ≡ Fault.Damaged))) }
-    ensures honesty { D.honest (device_left result) ↔ D.honest (device_of store) }
-    ensures later { D.faults (device_of store) ≤ D.faults (device_left result) }
     ensures size { D.sectors (device_left result) ≡ D.sectors (device_of store) }
 {
     let mut store = store;

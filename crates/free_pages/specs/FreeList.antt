@@ -1,8 +1,11 @@
 -- The free list, as its pages say it and as what is kept of it.
-use Rattle.std.specs.Prelude.{◌≡◌, ◌↔◌, ◌⊎◌, ℕ, ◌+◌, ◌<◌, ◌≤◌, List, length, if◌then◌else◌}
+use Rattle.std.specs.Prelude.{◌≡◌, ◌↔◌, ◌⊎◌, ℕ, ◌+◌, ◌<◌, ◌≤◌, List, Result, OnOk, length, if◌then◌else◌}
 use Rattle.page_model.specs.Pages.{Body, FreePage}
 use Rattle.page_model.specs.Space.{Space, is_page, times_of}
 use Rattle.page_model.specs.PageBodies.{first_of, free_bodies, AreRead}
+use Rattle.page_io.specs.Store.{StoreState}
+use Rattle.page_io.specs.Views.{MayEnd}
+use Rattle.page_io.specs.declared.store.PageFault.{PageFault}
 use Rattle.free_pages.specs.declared.free_state.FreeState.{FreeState}
 
 -- what is kept of a space
@@ -41,3 +44,10 @@ IsTaken at old n new = IsFirstTaken at old n new ⊎ IsEndTaken old n new
 -- there is a first free page exactly where there are free pages
 abbrev pub HasEnds : FreeState → Type 0
 HasEnds state = (state.head ≡ 0) ↔ (state.count ≡ 0)
+
+-- There is a first free page exactly where there are free pages, if it was so before. Where a
+-- commit might have ended the file at the kept end, it may at the new one.
+pub record KeepsEnds {T : Type 0} (old new : StoreState) (before after : FreeState)
+    (result : Result T PageFault) : Type 0 where
+  pub ends : HasEnds before → HasEnds after
+  pub may_end : MayEnd old before.file_end → OnOk result (MayEnd new after.file_end)

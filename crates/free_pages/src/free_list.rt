@@ -6,9 +6,9 @@ ghost use Rattle.page_model.specs.Pages.{FreePage};
 ghost use Rattle.page_model.specs.Reading.{body_of};
 ghost use Rattle.page_model.specs.Space.{Space, next_page, after_take, give as given};
 ghost use Rattle.page_model.specs.Spelling.{free_spelling};
-ghost use Rattle.page_io.specs.Answers.{HasDeviceCause};
+ghost use Rattle.page_io.specs.Calls.{IsReadingCall};
 ghost use Rattle.page_io.specs.Store.{IsKnown};
-ghost use Rattle.page_io.specs.Views.{body_at, StagesOnly, ReadsOnly, MayEnd, MayEndWith};
+ghost use Rattle.page_io.specs.Views.{body_at, StagesOnly, MayEnd, MayEndWith};
 ghost use Rattle.page_io.specs.declared.store.PageFault.TheVariants.{Broken, Damaged, Device};
 ghost use Rattle.free_pages.specs.FreeList.{state_of, IsFreeList, IsApart, IsFirstTaken, IsTaken, HasEnds};
 ghost use Rattle.free_pages.specs.declared.free_state.FreeState.{FreeState};
@@ -38,8 +38,7 @@ pub fn read_free(page: &Page, n: u32) -> Option<u32>
 /// The first free page and the list behind it.
 fn take_first<S: PageStore>(store: &mut S, space: &FreeState) -> Result<FreeState, PageFault>
     requires { (0 < space.now.head) × (0 < space.now.count) }
-    ensures reads { ReadsOnly S.PageStore store.old store.new }
-    ensures cause { HasDeviceCause (S.faults store.old) (S.faults store.new) result }
+    ensures reads { IsReadingCall S.PageStore store.old store.new result }
     ensures broken { IsErrOf result Broken → (S.state store.old).usable ≡ false }
     ensures only { IfErr result (λ e. (e ≡ Broken) ⊎ ((e ≡ Damaged) ⊎ (e ≡ Device))) }
     ensures known { OnOk result (IsKnown (S.state store.old) space.now.head) }
@@ -69,8 +68,7 @@ fn take_first<S: PageStore>(store: &mut S, space: &FreeState) -> Result<FreeStat
 /// at the end, Damaged where what is kept or the first free page is no free list's; Broken and
 /// Device are the store's, from the read of that page.
 pub fn take<S: PageStore>(store: &mut S, space: &mut FreeState) -> Result<u32, PageFault>
-    ensures reads { ReadsOnly S.PageStore store.old store.new }
-    ensures cause { HasDeviceCause (S.faults store.old) (S.faults store.new) result }
+    ensures reads { IsReadingCall S.PageStore store.old store.new result }
     ensures answer { IsTakeAnswer (S.state store.old) space.old result }
     ensures err { OnErr result (space.new ≡ space.old) }
     ensures number { IfOk result (λ n. 1 ≤ n) }

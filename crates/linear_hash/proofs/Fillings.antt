@@ -12,7 +12,7 @@ use Rattle.dbm_model.specs.Pairs.{Pair}
 use Rattle.page_model.specs.PairLists.{times}
 use Rattle.page_model.specs.Chain.{Entry, Chain, numbers, pairs_in, pages_of, pages_in, record_of, add}
 use Rattle.page_model.specs.Space.{next_page, times_of}
-use Rattle.page_model.specs.Placement.{Placement, key_bucket, chain_at, put_entry, bared, opened, split, IsSoundBeside, IsSound, pairs_of}
+use Rattle.page_model.specs.Placement.{Placement, key_bucket, chain_at, put_entry, bared, extended, split, IsSoundBeside, IsSound, pairs_of}
 use Rattle.page_model.specs.PageBodies.{first_of, entry_bodies, AreRead}
 use Rattle.page_model.specs.Rewrites.{new_head}
 use Rattle.page_model.proofs.AddressLemmas.{address_below}
@@ -20,10 +20,10 @@ use Rattle.page_model.proofs.Ends.{kept_fold}
 use Rattle.page_model.proofs.Chains.{pairs_of_entries, AllByRecursion-left, AllByRecursion-right}
 use Rattle.page_model.proofs.Flat.{numbers-entries}
 use Rattle.page_model.proofs.Frames.{kept, first_of_add}
-use Rattle.page_model.proofs.Openings.{first_of_bared}
+use Rattle.page_model.proofs.Extensions.{first_of_bared}
 use Rattle.page_model.proofs.PairLists.{value_in, sum_by-flat_map-set}
 use Rattle.page_model.proofs.Places.{times_none, value_at}
-use Rattle.page_model.proofs.Splits.{CanFill, first_absent, can_fill_rest, can_fill_opened}
+use Rattle.page_model.proofs.Splits.{CanFill, first_absent, can_fill_rest, can_fill_extended}
 use Rattle.lin_addr.specs.Shapes.{BelongsTo}
 use Rattle.free_pages.specs.declared.free_state.FreeState.{FreeState}
 use Rattle.free_pages.specs.FreeList.{IsApart}
@@ -38,7 +38,7 @@ use Rattle.linear_hash.specs.Splitting.{entries_split, IsRefilled}
 
 -- the placement once the first of them are put
 abbrev pub filled : Placement → ℕ → Placement
-filled p i = fold put_entry (opened p) (take i (entries_split p))
+filled p i = fold put_entry (extended p) (take i (entries_split p))
 
 -- the pages say that placement, and both buckets keep their head pages
 pub record IsFilling (at : ℕ → Body) (space : FreeState) (p : Placement) (i : ℕ) : Type 0 where
@@ -130,7 +130,7 @@ module _ (p : Placement) (sound : IsSound p) where
 
   -- ---- no pair is put yet
 
-  pub filling_starts : (at : ℕ → Body) (space : FreeState) → IsBelow at space (opened p)
+  pub filling_starts : (at : ℕ → Body) (space : FreeState) → IsBelow at space (extended p)
       → AreRead at (flat_map entry_bodies (entries_split p)) → IsFilling at space p 0
   filling_starts at space below read =
       let chain = chain_at p p.shape.split in
@@ -140,7 +140,7 @@ module _ (p : Placement) (sound : IsSound p) where
       let same = length-set p.chains p.shape.split (bared chain) in
       record {
         below = below;
-        can = can_fill_opened p sound;
+        can = can_fill_extended p sound;
         contents = read;
         shape_is = refl;
         many = omega (arith, length-append cs (last ∷ []), same);
@@ -169,10 +169,10 @@ module _ (p : Placement) (sound : IsSound p) where
         ∙ ap (λ (y : Entry). y ∷ drop (suc i) (entries_split p)) next.there)
 
     filled_is : filled p (i + 1) ≡ put_entry (filled p i) x
-    filled_is = ap (fold put_entry (opened p))
+    filled_is = ap (fold put_entry (extended p))
         (take_more (entries_split p) i x next.within
         ∙ ap (λ (y : Entry). take i (entries_split p) ++ y ∷ []) next.there)
-        ∙ fold-append put_entry (opened p) (take i (entries_split p)) (x ∷ [])
+        ∙ fold-append put_entry (extended p) (take i (entries_split p)) (x ∷ [])
 
     module _ (at : ℕ → Body) (space : FreeState) (so_far : IsFilling at space p i) where
       can_put : CanFill (filled p i) (x ∷ drop (i + 1) (entries_split p))
@@ -272,7 +272,7 @@ module _ (p : Placement) (sound : IsSound p) where
 pub filling_ends : (at : ℕ → Body) (space : FreeState) (p : Placement) (i : ℕ)
     → length (entries_split p) ≤ i → IsFilling at space p i → IsBelow at space (split p)
 filling_ends at space p i le so_far =
-    subst (λ entries. IsBelow at space (fold put_entry (opened p) entries))
+    subst (λ entries. IsBelow at space (fold put_entry (extended p) entries))
     (take_all i (entries_split p) le) so_far.below
 
 -- no put gives a page back
@@ -280,8 +280,8 @@ pub filling_room : (at : ℕ → Body) (space : FreeState) (p : Placement) (i : 
     → IsFilling at space p i → space.file_end ≤ (split p).space.end
 filling_room at space p i so_far =
     let all : fold put_entry (filled p i) (drop i (entries_split p)) ≡ split p =
-    sym (fold-append put_entry (opened p) (take i (entries_split p)) (drop i (entries_split p)))
-    ∙ ap (fold put_entry (opened p)) (take-append-drop i (entries_split p)) in
+    sym (fold-append put_entry (extended p) (take i (entries_split p)) (drop i (entries_split p)))
+    ∙ ap (fold put_entry (extended p)) (take-append-drop i (entries_split p)) in
     omega (
       arith,
       ap (λ (s : FreeState). s.file_end) so_far.below.kept,
@@ -345,7 +345,7 @@ module _ (version : Version) (at : ℕ → Body) (space : FreeState) (shape : Sh
 
     of_version : version ≡ (filled p i).bounds.version
     of_version = from.version_is
-        ∙ ap (λ (b : Bounds). b.version) (sym (kept_bounds (take i (entries_split p)) (opened p)))
+        ∙ ap (λ (b : Bounds). b.version) (sym (kept_bounds (take i (entries_split p)) (extended p)))
 
     module _ (at' : ℕ → Body) (space' : FreeState) (so_far : IsFilling at' space' p i) where
       -- the chain to which it goes

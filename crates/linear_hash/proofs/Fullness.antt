@@ -1,4 +1,4 @@
--- Where there are too many pairs for the buckets, and one more is opened.
+-- Where there are too many pairs for the buckets, and one more is added.
 use Rattle.std.proofs.Common.{◌≡◌, ◌∙◌, ℕ, ◌+◌, ◌*◌, ◌/◌, ◌^◌, ◌<◌, ◌≤◌, max, Bool, true, false, cond, eqb, ltb, length, refl, sym, ap, subst, arith, pow-add}
 use Rattle.std.proofs.lemmas.Bool.{lt-ltb, le-ltb, eqb-true, eqb-false}
 use Rattle.page_model.specs.Address.{Shape, buckets, grown}
@@ -8,7 +8,7 @@ use Rattle.page_model.specs.Valid.{IsMeta, meta_buckets}
 use Rattle.free_pages.specs.declared.free_state.FreeState.{FreeState}
 use Rattle.linear_hash.specs.Tables.{shape_in, shape_for, split_where_full}
 use Rattle.linear_hash.specs.Staging.{IsMidway, IsGrown}
-use Rattle.linear_hash.proofs.Openings.{next_bucket}
+use Rattle.linear_hash.proofs.Extensions.{next_bucket}
 
 -- the split pointer stays within its level, and there is one bucket more
 grown_by_one : (s : Shape) → s.split < 2 ^ s.level

@@ -9,8 +9,8 @@ pub mod Fullness
 pub mod MemoryNeeds
 pub mod MetaStaging
 pub mod Midway
-pub mod OpenedNumbers
-pub mod Openings
+pub mod ExtendedNumbers
+pub mod Extensions
 pub mod PassedBuckets
 pub mod Passes
 pub mod Plans

@@ -7,7 +7,7 @@ use Rattle.dbm_model.specs.Bounds.{Bounds}
 use Rattle.page_model.specs.Pages.{Meta, Body, Record}
 use Rattle.page_model.specs.Numbers.{IsNumber}
 use Rattle.page_model.specs.Chain.{Entry, Chain, numbers, entries_in, record_of}
-use Rattle.page_model.specs.Placement.{Placement, chain_at, put_entry, opened, split}
+use Rattle.page_model.specs.Placement.{Placement, chain_at, put_entry, extended, split}
 use Rattle.page_model.specs.PageBodies.{first_of, segment_bodies, heads_of, AreRead}
 use Rattle.page_model.proofs.Splits.{split_filled}
 use Rattle.page_model.proofs.Stores.{split_keeps}
@@ -21,8 +21,8 @@ use Rattle.bucket_chain.specs.Chains.{IsChainAt}
 use Rattle.bucket_chain.specs.Placements.{IsBelow}
 use Rattle.linear_hash.specs.Tables.{shape_in}
 use Rattle.linear_hash.specs.Staging.{IsMidway, IsGrown}
-use Rattle.linear_hash.specs.Splitting.{entries_split, IsBucketOpened, IsRefilled}
-use Rattle.linear_hash.proofs.Openings.{split_below, split_placed, midway_heads, next_bucket}
+use Rattle.linear_hash.specs.Splitting.{entries_split, IsBucketAdded, IsRefilled}
+use Rattle.linear_hash.proofs.Extensions.{split_below, split_placed, midway_heads, next_bucket}
 
 -- ---- what is read
 
@@ -87,7 +87,7 @@ chain_here at m space p end head midway small near from =
 refilled : (at0 at : ℕ → Body) (m m' : Meta) (space0 space : FreeState) (p : Placement)
     (b head n : ℕ) (records : List Record) → IsMidway at0 m space0 p
     → head ≡ first_of (numbers (chain_at p p.shape.split)) → AddsSegment m m' b
-    → IsBucketOpened at m' space p n
+    → IsBucketAdded at m' space p n
     → records ≡ map record_of (entries_split p)
     → IsRefilled m'.bounds.version at space (shape_in m') head n records p
 refilled at0 at m m' space0 space p b head n records midway from added now are = record {
@@ -102,7 +102,7 @@ refilled at0 at m m' space0 space p b head n records midway from added now are =
   records_are = are;
 }
 
--- ---- two calls that read, the second of which gives the records, and one that opens a bucket
+-- ---- two calls that read, the second of which gives the records, and one that adds a bucket
 
 module _ {S : Type 0} (s : Ghosts S) (first second : S) (m : Meta) (space : FreeState)
     (p : Placement) (head : ℕ) (from : head ≡ first_of (numbers (chain_at p p.shape.split)))
@@ -131,12 +131,12 @@ module _ {S : Type 0} (s : Ghosts S) (first second : S) (m : Meta) (space : Free
         → records ≡ map record_of (entries_in chain))
         → (s.honest third → (q : Placement) → IsMidway (body_at s third) m space q
         → head ≡ first_of (numbers (chain_at q q.shape.split))
-        → IsBucketOpened at m' space' q n)
+        → IsBucketAdded at m' space' q n)
         → AddsSegment m m' b → again ≡ records
         → IsRefilled m'.bounds.version at space' (shape_in m') head n again p
-    refilled_later at m' space' b n records again near are opens added same =
+    refilled_later at m' space' b n records again near are extends added same =
         refilled (body_at s third) at m m' space space' p b head n again midway_later from added
-        (opens honest_later p midway_later from)
+        (extends honest_later p midway_later from)
         (same ∙ are (one.stages_only.honesty.1 honest) (chain_at p p.shape.split)
         (chain_then near))
 
@@ -154,7 +154,7 @@ kept_segments (e ∷ entries) q = kept_segments entries (put_entry q e)
 
 pub midway_split : (at0 at1 at : ℕ → Body) (m m1 m' : Meta) (space0 space1 space : FreeState)
     (p : Placement) (b n : ℕ) → IsMidway at0 m space0 p → AddsSegment m m1 b
-    → IsBucketOpened at1 m1 space1 p n → IsBelow at space (split p)
+    → IsBucketAdded at1 m1 space1 p n → IsBelow at space (split p)
     → shape_in m' ≡ grown (shape_in m1) → m'.segments ≡ m1.segments → m'.bounds ≡ m1.bounds
     → IsMidway at m' space (split p)
 midway_split at0 at1 at m m1 m' space0 space1 space p b n midway added now below shape
@@ -164,8 +164,8 @@ midway_split at0 at1 at m m1 m' space0 space1 space p b n midway added now below
       sound = (split_keeps p midway.sound).0;
       below = below;
       shape_is = shape ∙ ap grown (ap shape_in added.rest ∙ midway.shape_is)
-          ∙ sym (kept_shape entries (opened p));
-      segments_are = segments ∙ now.segments_are ∙ sym (kept_segments entries (opened p));
+          ∙ sym (kept_shape entries (extended p));
+      segments_are = segments ∙ now.segments_are ∙ sym (kept_segments entries (extended p));
       bounds_are = bounds ∙ ap (λ (x : Meta). x.bounds) added.rest ∙ midway.bounds_are
           ∙ sym (split_filled p midway.sound).bounds_are;
     }

@@ -16,7 +16,7 @@ use Rattle.bucket_chain.specs.AnyFile.{AreInTurn, AreAdded, AreStored, IsEmptied
 use Rattle.bucket_chain.proofs.Added.{all_under}
 use Rattle.linear_hash.specs.Tables.{shape_in}
 use Rattle.linear_hash.specs.Staging.{IsGrown}
-use Rattle.linear_hash.specs.AnyFile.{IsOpened, IsSplit, IsSplitWhere, head_for}
+use Rattle.linear_hash.specs.AnyFile.{IsExtended, IsSplit, IsSplitWhere, head_for}
 use Rattle.linear_hash.specs.Changing.{shaped_as}
 
 -- the test of a bit, as the code makes it
@@ -109,7 +109,7 @@ module _ (before n after : Meta) (pairs head count : ℕ)
     of_version = is.of_version;
     change = subst (λ (ns : List ℕ). AreInTurn
         (λ mid between.
-        IsOpened old mid before (record before { segments = ns }) space between is.head is.taken)
+        IsExtended old mid before (record before { segments = ns }) space between is.head is.taken)
         (λ mid between. AreAdded mid new (Unit {0}) between left
         (head_for before.level is.head is.taken) is.records)) (sym same_segments)
         (record {

@@ -7,7 +7,7 @@ use Rattle.page_model.specs.Space.{times_of}
 use Rattle.dbm_model.specs.Pairs.{Key, Contents}
 use Rattle.page_model.specs.Placement.{Placement, pairs_of, contents, delete, IsSound}
 use Rattle.page_model.specs.PageBodies.{meta_of}
-use Rattle.page_model.proofs.Openings.{meta_rewrites}
+use Rattle.page_model.proofs.Extensions.{meta_rewrites}
 use Rattle.page_model.proofs.Places.{delete_sound, contents-delete}
 use Rattle.page_model.proofs.Stores.{counts_keys}
 use Rattle.page_io.specs.Store.{StoreState}

@@ -22,8 +22,8 @@ pub record IsHeadTaken (old new : ℕ → Body) (before after : FreeState) (take
 
 -- the chain from page `head` on was emptied, a head page was taken, and it was set as the next
 -- bucket's
-abbrev pub IsOpened : (ℕ → Body) → (ℕ → Body) → Meta → Meta → FreeState → FreeState → ℕ → ℕ → Type 0
-IsOpened old new m n before after head taken =
+abbrev pub IsExtended : (ℕ → Body) → (ℕ → Body) → Meta → Meta → FreeState → FreeState → ℕ → ℕ → Type 0
+IsExtended old new m n before after head taken =
     AreInTurn (λ mid between. IsEmptied old mid before between head) (λ mid between.
     AreInTurn (λ fresh left. IsHeadTaken mid fresh between left taken) (λ fresh left.
     IsEntrySet fresh new m.segments n.segments left after (meta_buckets m) taken))
@@ -35,7 +35,7 @@ head_for level head taken r = if bit_at (hash_of r.key) level == 1 then taken el
 
 -- The head page of bucket `split` was read from its segment, and from there on a chain to its end.
 -- The records that were read are such as a page of the file's version may say. One bucket more was
--- opened, and they were added in turn, each to its bucket.
+-- added, and they were added in turn, each to its bucket.
 pub record IsSplit (Ends : Type 0) (old new : ℕ → Body) (m n : Meta)
     (before after : FreeState) : Type 0 where
   pub head : ℕ
@@ -44,7 +44,7 @@ pub record IsSplit (Ends : Type 0) (old new : ℕ → Body) (m n : Meta)
   pub entry : HasEntry (old (slice_index m.segments (m.split / 508))) (m.split % 508) head
   pub says : SaysAll old head records
   pub of_version : AllByRecursion (IsOf m.bounds.version) records
-  pub change : AreInTurn (λ mid between. IsOpened old mid m n before between head taken)
+  pub change : AreInTurn (λ mid between. IsExtended old mid m n before between head taken)
       (λ mid between. AreAdded mid new Ends between after (head_for m.level head taken) records)
   pub grown : IsGrown m n
 

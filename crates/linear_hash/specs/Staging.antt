@@ -20,7 +20,6 @@ use Rattle.linear_hash.specs.Tables.{shape_in}
 use Rattle.page_io.specs.declared.store.PageStore.{Ghosts}
 use Rattle.page_io.specs.Views.{body_at, MayEnd}
 use Rattle.page_io.specs.Committing.{MayCommit}
-use Rattle.free_pages.specs.FreeList.{HasEnds}
 
 -- the pages but the meta page say a sound placement midway in a change, and this is kept of it
 -- beside the number of its pairs
@@ -59,13 +58,6 @@ pub record LacksOnlyRoom {T : Type 0} (capacity most : ℕ) (result : Result T P
     : Type 0 where
   pub whole : IsErrOf result Damaged → ⊥
   pub room : IsErrOf result NoRoom → capacity ≤ most
-
--- There is a first free page exactly where there are free pages, if it was so before. Where a
--- commit might have ended the file at the kept end, it may at the new one.
-pub record KeepsEnds {T : Type 0} (old new : StoreState) (before after : FreeState)
-    (result : Result T PageFault) : Type 0 where
-  pub ends : HasEnds before → HasEnds after
-  pub may_end : MayEnd old before.file_end → OnOk result (MayEnd new after.file_end)
 
 -- what is staged can be committed with this end, which is no less than the old one
 pub record IsNewEnd (old new : StoreState) (end : ℕ) : Type 0 where

@@ -4,9 +4,9 @@ ghost use Rattle.std.specs.Prelude.{IfOk, IfSome, IsErrOf};
 ghost use Rattle.std.specs.FinMap.{get};
 ghost use Rattle.page_model.specs.Placement.{contents};
 ghost use Rattle.page_model.specs.Valid.{IsMeta};
-ghost use Rattle.page_io.specs.Answers.{HasDeviceCause};
+ghost use Rattle.page_io.specs.Calls.{IsReadingCall};
 ghost use Rattle.page_io.specs.Versions.{model_version};
-ghost use Rattle.page_io.specs.Views.{body_at, ReadsOnly};
+ghost use Rattle.page_io.specs.Views.{body_at};
 ghost use Rattle.page_io.specs.declared.store.PageFault.TheVariants.{Damaged};
 ghost use Rattle.seg_table.specs.MetaPages.{model_meta};
 ghost use Rattle.bucket_chain.specs.WalkAnswers.{IsWalkAnswer};
@@ -30,8 +30,7 @@ pub fn find_pair<S: PageStore>(
     page: &mut Page,
 ) -> Result<Option<Place>, PageFault>
     requires { IsMeta (model_meta meta.now) }
-    ensures reads { ReadsOnly S.PageStore store.old store.new }
-    ensures cause { HasDeviceCause (S.faults store.old) (S.faults store.new) result }
+    ensures reads { IsReadingCall S.PageStore store.old store.new result }
     ensures answer { IsWalkAnswer (S.state store.old) result }
     ensures held { IfOk result (λ place.
         IfSome place (λ at. IsHeld (model_version meta.now.version) key.now page.new.bytes

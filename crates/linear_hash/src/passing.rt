@@ -3,8 +3,8 @@
 ghost use Rattle.std.specs.Prelude.{option_copied, IfOk, IfSome, IsErrOf};
 ghost use Rattle.page_model.specs.Placement.{pairs_of};
 ghost use Rattle.page_model.specs.Valid.{IsMeta};
-ghost use Rattle.page_io.specs.Answers.{HasDeviceCause};
-ghost use Rattle.page_io.specs.Views.{body_at, ReadsOnly};
+ghost use Rattle.page_io.specs.Calls.{IsReadingCall};
+ghost use Rattle.page_io.specs.Views.{body_at};
 ghost use Rattle.page_io.specs.declared.store.PageFault.TheVariants.{Damaged};
 ghost use Rattle.seg_table.specs.MetaPages.{model_meta};
 ghost use Rattle.bucket_chain.specs.WalkAnswers.{IsWalkAnswer};
@@ -32,8 +32,7 @@ pub fn next_pair<S: PageStore>(
     ranks: &mut PageRanks,
 ) -> Result<Option<usize>, PageFault>
     requires { IsMeta (model_meta meta.now) }
-    ensures reads { ReadsOnly S.PageStore store.old store.new }
-    ensures cause { HasDeviceCause (S.faults store.old) (S.faults store.new) result }
+    ensures reads { IsReadingCall S.PageStore store.old store.new result }
     ensures answer { IsWalkAnswer (S.state store.old) result }
 
     // On any bytes a key is answered that is behind `last`.

@@ -2,15 +2,15 @@
 
 ghost use Rattle.std.specs.Prelude.{◌≡◌, ◌+◌, ◌*◌, ◌^◌, ◌<◌, ◌≤◌, All, OnOk, IfOk, IsErrOf, length, map};
 ghost use Rattle.page_model.specs.Chain.{numbers};
-ghost use Rattle.page_model.specs.Placement.{Placement, pairs_of, chain_at, opened, split};
+ghost use Rattle.page_model.specs.Placement.{Placement, pairs_of, chain_at, extended, split};
 ghost use Rattle.page_model.specs.PageBodies.{first_of};
 ghost use Rattle.dbm_model.specs.Sizes.{segments_for};
 ghost use Rattle.page_model.specs.Valid.{meta_buckets};
-ghost use Rattle.page_io.specs.Answers.{HasDeviceCause};
+ghost use Rattle.page_io.specs.Calls.{IsStagingCall};
 ghost use Rattle.page_io.specs.Versions.{model_version};
-ghost use Rattle.page_io.specs.Views.{body_at, StagesOnly, MayEnd};
+ghost use Rattle.page_io.specs.Views.{body_at, MayEnd};
 ghost use Rattle.page_io.specs.declared.store.PageFault.TheVariants.{NoRoom, Damaged};
-ghost use Rattle.free_pages.specs.FreeList.{HasEnds};
+ghost use Rattle.free_pages.specs.FreeList.{KeepsEnds};
 ghost use Rattle.seg_table.specs.MetaPages.{model_meta};
 ghost use Rattle.seg_table.specs.Heads.{AddsSegment};
 ghost use Rattle.linear_hash.specs.Staging.{IsMidway, IsChangeAnswer, IsGrown, ForEachMidway};
@@ -18,8 +18,8 @@ ghost use Rattle.lin_addr.specs.Shapes.{shape_of};
 ghost use Rattle.bucket_chain.specs.Pairs.{record_as, IsSmall};
 ghost use Rattle.bucket_chain.specs.AnyFile.{AreAdded};
 ghost use Rattle.bucket_chain.specs.Placements.{IsBelow};
-ghost use Rattle.linear_hash.specs.AnyFile.{IsOpened, IsSplit, head_for};
-ghost use Rattle.linear_hash.specs.Splitting.{IsBucketOpened, IsRefilled};
+ghost use Rattle.linear_hash.specs.AnyFile.{IsExtended, IsSplit, head_for};
+ghost use Rattle.linear_hash.specs.Splitting.{IsBucketAdded, IsRefilled};
 
 use bucket_chain::{Pair, load_all, put_record, store_all};
 use free_pages::{FreeState, take};
@@ -50,13 +50,10 @@ pub fn split_bucket<S: PageStore>(
     requires segments { length (model_meta meta.old).segments
         ≡ segments_for (meta_buckets (model_meta meta.old)) }
     requires few { 8 * meta_buckets (model_meta meta.old) < 1000000 }
-    ensures stages { StagesOnly S.PageStore store.old store.new }
-    ensures cause { HasDeviceCause (S.faults store.old) (S.faults store.new) result }
+    ensures stages { IsStagingCall S.PageStore store.old store.new result }
     ensures answer { IsChangeAnswer (S.state store.old) result }
     ensures grown { OnOk result (IsGrown (model_meta meta.old) (model_meta meta.new)) }
-    ensures ends { HasEnds space.old → HasEnds space.new }
-    ensures may_end { MayEnd (S.state store.old) space.old.file_end
-        → OnOk result (MayEnd (S.state store.new) space.new.file_end) }
+    ensures keeps { KeepsEnds (S.state store.old) (S.state store.new) space.old space.new result }
 
     // On any file the bucket is read to its end, and its pairs are in two buckets thereafter.
     ensures splits { S.honest store.old
@@ -83,7 +80,7 @@ pub fn split_bucket<S: PageStore>(
     let mut page = Page::blank();
     let head = head_of(store, meta, meta.shape.split, &mut page)?;
     let pairs = load_all(alloc, store, head, meta.version)?;
-    let new_head = open_bucket(store, meta, space, head)?;
+    let new_head = add_bucket(store, meta, space, head)?;
     let heads = Heads {
         old: head,
         new: new_head,
@@ -100,9 +97,9 @@ pub fn split_bucket<S: PageStore>(
     Ok(())
 }
 
-/// Empties the bucket of page `head`, which is bucket `split`, and opens one bucket more. It
+/// Empties the bucket of page `head`, which is bucket `split`, and adds one bucket. It
 /// answers the new one's head page.
-fn open_bucket<S: PageStore>(
+fn add_bucket<S: PageStore>(
     store: &mut S,
     meta: &mut Meta,
     space: &mut FreeState,
@@ -112,31 +109,28 @@ fn open_bucket<S: PageStore>(
         ≡ segments_for (meta_buckets (model_meta meta.old)) }
     requires few { 8 * meta_buckets (model_meta meta.old) < 1000000 }
     requires small { space.old.file_end < 2 ^ 32 }
-    ensures stages { StagesOnly S.PageStore store.old store.new }
-    ensures cause { HasDeviceCause (S.faults store.old) (S.faults store.new) result }
+    ensures stages { IsStagingCall S.PageStore store.old store.new result }
     ensures answer { IsChangeAnswer (S.state store.old) result }
     ensures added { OnOk result (AddsSegment (model_meta meta.old) (model_meta meta.new)
         (meta_buckets (model_meta meta.old))) }
-    ensures ends { HasEnds space.old → HasEnds space.new }
-    ensures may_end { MayEnd (S.state store.old) space.old.file_end
-        → OnOk result (MayEnd (S.state store.new) space.new.file_end) }
+    ensures keeps { KeepsEnds (S.state store.old) (S.state store.new) space.old space.new result }
 
     // On any file the chain is emptied, and a head page that is taken is the next bucket's.
-    ensures opens { S.honest store.old
-        → IfOk result (IsOpened (body_at S.PageStore store.old) (body_at S.PageStore store.new)
+    ensures extends { S.honest store.old
+        → IfOk result (IsExtended (body_at S.PageStore store.old) (body_at S.PageStore store.new)
         (model_meta meta.old) (model_meta meta.new) space.old space.new head) }
 
     // It leaves the model's placement with no record in either bucket, is never Damaged, and lacks
     // room only on a device that is no larger than that placement.
     ensures exact { ForEachMidway S.PageStore store.old (model_meta meta.old) space.old (λ p.
         head ≡ first_of (numbers (chain_at p p.shape.split))
-        → IfOk result (IsBucketOpened (body_at S.PageStore store.new) (model_meta meta.new)
+        → IfOk result (IsBucketAdded (body_at S.PageStore store.new) (model_meta meta.new)
         space.new p)) }
     ensures whole { ForEachMidway S.PageStore store.old (model_meta meta.old) space.old (λ p.
         head ≡ first_of (numbers (chain_at p p.shape.split)) → IsErrOf result Damaged → ⊥) }
     ensures room { ForEachMidway S.PageStore store.old (model_meta meta.old) space.old (λ p.
         head ≡ first_of (numbers (chain_at p p.shape.split)) → IsErrOf result NoRoom
-        → (S.state store.old).capacity ≤ (opened p).space.end) }
+        → (S.state store.old).capacity ≤ (extended p).space.end) }
 {
     store_all(store, space, head, &[], meta.version)?;
     let new_head = take(store, space)?;
@@ -156,12 +150,9 @@ fn refill<S: PageStore>(
     version: Version,
 ) -> Result<(), PageFault>
     requires { All (λ pair. IsSmall (model_version version) (record_as pair)) pairs.now }
-    ensures stages { StagesOnly S.PageStore store.old store.new }
-    ensures cause { HasDeviceCause (S.faults store.old) (S.faults store.new) result }
+    ensures stages { IsStagingCall S.PageStore store.old store.new result }
     ensures answer { IsChangeAnswer (S.state store.old) result }
-    ensures ends { HasEnds space.old → HasEnds space.new }
-    ensures may_end { MayEnd (S.state store.old) space.old.file_end
-        → OnOk result (MayEnd (S.state store.new) space.new.file_end) }
+    ensures keeps { KeepsEnds (S.state store.old) (S.state store.new) space.old space.new result }
 
     // On any file the records are added in order, each by one bit of its key's hash.
     ensures added { S.honest store.old
@@ -169,7 +160,7 @@ fn refill<S: PageStore>(
         (MayEnd (S.state store.old) space.old.file_end) space.old space.new
         (head_for shape.level heads.old heads.new) (map record_as pairs.now)) }
 
-    // From the opened placement it leaves the split one, is never Damaged, and lacks room only on a
+    // From the extended placement it leaves the split one, is never Damaged, and lacks room only on a
     // device that is no larger than that one.
     ensures exact { S.honest store.old → (p : Placement)
         → IsRefilled (model_version version) (body_at S.PageStore store.old) space.old

@@ -10,11 +10,12 @@ ghost use Rattle.page_model.specs.Chain.{content_pages, pairs_in};
 ghost use Rattle.page_model.specs.Placement.{pairs_of, contents, chain_at, delete, replace, store as stored, MayStore};
 ghost use Rattle.page_model.specs.Pages.{MetaPage};
 ghost use Rattle.page_model.specs.Valid.{IsMeta, meta_buckets};
-ghost use Rattle.page_io.specs.Answers.{HasDeviceCause, IsStageAnswer};
+ghost use Rattle.page_io.specs.Calls.{IsStagingCall};
+ghost use Rattle.page_io.specs.Answers.{IsStageAnswer};
 ghost use Rattle.page_io.specs.Versions.{model_version};
-ghost use Rattle.page_io.specs.Views.{body_at, StagesOnly, MayEnd};
+ghost use Rattle.page_io.specs.Views.{body_at, MayEnd};
 ghost use Rattle.page_io.specs.declared.store.PageFault.TheVariants.{Memory, NoRoom, Damaged};
-ghost use Rattle.free_pages.specs.FreeList.{HasEnds};
+ghost use Rattle.free_pages.specs.FreeList.{HasEnds, KeepsEnds};
 ghost use Rattle.seg_table.specs.MetaPages.{model_meta};
 ghost use Rattle.bucket_chain.specs.Answers.{IsRemoveAnswer};
 ghost use Rattle.bucket_chain.specs.AnyFile.{IsTakenOut};
@@ -23,7 +24,7 @@ ghost use Rattle.linear_hash.specs.AnyFile.{IsSplitWhere};
 ghost use Rattle.linear_hash.specs.Changing.{IsDeleted, IsStored, PutIn, TookOut};
 ghost use Rattle.linear_hash.specs.Tables.{space_in, shape_in, shape_for, split_where_full, ForEachTable};
 ghost use Rattle.page_io.specs.Committing.{MayCommit};
-ghost use Rattle.linear_hash.specs.Staging.{IsMidway, IsChangeAnswer, IsReplaceAnswer, IsDeleteAnswer, IsKept, IsNewEnd, KeepsEnds, LacksOnlyRoom, IsStaged, ForEachMidway, MayTakeMemory, TakesMemory, removal_pages};
+ghost use Rattle.linear_hash.specs.Staging.{IsMidway, IsChangeAnswer, IsReplaceAnswer, IsDeleteAnswer, IsKept, IsNewEnd, LacksOnlyRoom, IsStaged, ForEachMidway, MayTakeMemory, TakesMemory, removal_pages};
 
 use crate::splitting::split_bucket;
 use bucket_chain::{put, remove};
@@ -33,7 +34,7 @@ use page_io::{Page, PageFault, PageStore, Version};
 use seg_table::{Meta, head_of, write_meta};
 use std::alloc::Global;
 
-/// How many pairs there may be to a bucket before one more is opened.
+/// How many pairs there may be to a bucket before one more is added.
 const PER_BUCKET: u32 = 8;
 
 /// The free pages and the end of the file.
@@ -56,10 +57,9 @@ fn take_out<S: PageStore>(
     page: &mut Page,
     version: Version,
 ) -> Result<(), PageFault>
-    ensures stages { StagesOnly S.PageStore store.old store.new }
+    ensures stages { IsStagingCall S.PageStore store.old store.new result }
     ensures few { length (S.state store.new).staged
         ≤ length (S.state store.old).staged + 1 + pages_for (model_version version) }
-    ensures cause { HasDeviceCause (S.faults store.old) (S.faults store.new) result }
     ensures answer { IsRemoveAnswer S.reserved (pages_for (model_version version))
         (S.state store.old) result }
     ensures end { space.new.file_end ≡ space.old.file_end }
@@ -95,11 +95,10 @@ fn replace_pair<S: PageStore>(
 ) -> Result<(), PageFault>
     requires allowed { IsAllowed (model_version meta.now.version) (key.now, content.now) }
     requires valid { IsMeta (model_meta meta.now) }
-    ensures stages { StagesOnly S.PageStore store.old store.new }
+    ensures stages { IsStagingCall S.PageStore store.old store.new result }
     ensures few { length (S.state store.new).staged ≤ length (S.state store.old).staged + 2
         + content_pages (key.now, content.now)
         + removal_pages (model_version meta.now.version) was_there }
-    ensures cause { HasDeviceCause (S.faults store.old) (S.faults store.new) result }
     ensures answer { IsReplaceAnswer S.reserved (S.state store.old) space.old
         (content_pages (key.now, content.now))
         (removal_pages (model_version meta.now.version) was_there) result }
@@ -145,8 +144,7 @@ fn split_if_full<S: PageStore>(
         (model_meta meta.old) { pairs = 0; free_head = 0; free_count = 0 }) }
     requires few { (meta.old.pairs ≤ meta.old.limit)
         × (meta.old.pairs ≤ 8 * meta_buckets (model_meta meta.old) + 1) }
-    ensures stages { StagesOnly S.PageStore store.old store.new }
-    ensures cause { HasDeviceCause (S.faults store.old) (S.faults store.new) result }
+    ensures stages { IsStagingCall S.PageStore store.old store.new result }
     ensures answer { IsChangeAnswer (S.state store.old) result }
     ensures memory { IsErrOf result Memory
         → 8 * meta_buckets (model_meta meta.old) < meta.old.pairs }
@@ -190,9 +188,8 @@ fn stage_meta<S: PageStore>(
 ) -> Result<u32, PageFault>
     requires valid { IsMeta (record (model_meta meta.old) { free_head = 0; free_count = 0 }) }
     requires ends { HasEnds space }
-    ensures stages { StagesOnly S.PageStore store.old store.new }
+    ensures stages { IsStagingCall S.PageStore store.old store.new result }
     ensures few { length (S.state store.new).staged ≤ length (S.state store.old).staged + 1 }
-    ensures cause { HasDeviceCause (S.faults store.old) (S.faults store.new) result }
     ensures answer { IsStageAnswer S.reserved (S.state store.old) 1 result }
     ensures valid { IsMeta (model_meta meta.new) }
     ensures meta { model_meta meta.new
@@ -234,8 +231,7 @@ pub fn stage_store<S: PageStore>(
     requires idle { (S.state store.old).staged ≡ [] }
     requires valid { IsMeta (model_meta meta.old) }
     requires room { was_there ≡ false → meta.old.pairs < meta.old.limit }
-    ensures stages { StagesOnly S.PageStore store.old store.new }
-    ensures cause { HasDeviceCause (S.faults store.old) (S.faults store.new) result }
+    ensures stages { IsStagingCall S.PageStore store.old store.new result }
     ensures answer { IsChangeAnswer (S.state store.old) result }
     ensures memory { IsErrOf result Memory
         → MayTakeMemory (model_meta meta.old) was_there (key.now, content.now) }
@@ -279,10 +275,9 @@ fn remove_key<S: PageStore>(
     key: &[u8],
 ) -> Result<(), PageFault>
     requires { IsMeta (model_meta meta.now) }
-    ensures stages { StagesOnly S.PageStore store.old store.new }
+    ensures stages { IsStagingCall S.PageStore store.old store.new result }
     ensures few { length (S.state store.new).staged ≤ length (S.state store.old).staged + 1
         + pages_for (model_version meta.now.version) }
-    ensures cause { HasDeviceCause (S.faults store.old) (S.faults store.new) result }
     ensures answer { IsRemoveAnswer S.reserved (pages_for (model_version meta.now.version))
         (S.state store.old) result }
     ensures sparing { ForEachMidway S.PageStore store.old (model_meta meta.now) space.old (λ p.
@@ -316,8 +311,7 @@ pub fn stage_delete<S: PageStore>(
     requires idle { (S.state store.old).staged ≡ [] }
     requires valid { IsMeta (model_meta meta.old) }
     requires some { 0 < meta.old.pairs }
-    ensures stages { StagesOnly S.PageStore store.old store.new }
-    ensures cause { HasDeviceCause (S.faults store.old) (S.faults store.new) result }
+    ensures stages { IsStagingCall S.PageStore store.old store.new result }
     ensures few { length (S.state store.new).staged
         ≤ 2 + pages_for (model_version meta.old.version) }
     ensures answer { IsDeleteAnswer (S.state store.old) (model_version meta.old.version) result }
@@ -350,8 +344,7 @@ pub fn stage_delete<S: PageStore>(
 pub fn stage_upgrade<S: PageStore>(store: &mut S, meta: &mut Meta) -> Result<u32, PageFault>
     requires idle { (S.state store.old).staged ≡ [] }
     requires valid { IsMeta (model_meta meta.old) }
-    ensures stages { StagesOnly S.PageStore store.old store.new }
-    ensures cause { HasDeviceCause (S.faults store.old) (S.faults store.new) result }
+    ensures stages { IsStagingCall S.PageStore store.old store.new result }
     ensures few { length (S.state store.new).staged ≤ 1 }
     ensures answer { IsStageAnswer S.reserved (S.state store.old) 1 result }
     ensures meta { model_meta meta.new ≡ model_meta meta.old }

@@ -1,5 +1,5 @@
 -- Laws of the committed pages of a group.
-use Rattle.std.proofs.Common.{◌≡◌, inl, inr, ℕ, suc, ◌+◌, ◌-◌, ◌<◌, ◌≤◌, List, [], ◌∷◌, length, get_or, true, false, refl, sym, ◌∙◌, ap, arith}
+use Rattle.std.proofs.Common.{◌≡◌, inl, inr, ℕ, ◌+◌, ◌-◌, ◌<◌, ◌≤◌, List, [], length, get_or, true, false, sym, ◌∙◌, ap, arith}
 use Rattle.std.proofs.lemmas.Bool.{cases_lt}
 use Rattle.page_io.specs.Store.{Pages, pages_from, page_of, overlaid, has_page, are_in_order, committed_with, AllBelow}
 use Rattle.page_io.proofs.Overlays.{same_file, page_of-file, overlaid-staged, overlaid-none}
@@ -7,20 +7,7 @@ use Rattle.page_io.proofs.StagedPages.{order_below, order_wider, in_range, repla
 use Rattle.page_group.specs.Changed.{put_all}
 use Rattle.page_group.specs.Whole.{IsWhole}
 use Rattle.page_group.proofs.Putting.{AreWithin, order-put_all, has_page-put_all, overlaid-put_all}
-
--- the pages of a list, one by one
-listed : (pages : Pages) (page : ℕ → List ℕ) (at : ℕ)
-    → ((i : ℕ) → i < length pages → page (at + i) ≡ get_or pages i [])
-    → pages_from page at (length pages) ≡ pages
-listed [] page at is = refl
-listed (first ∷ pages) page at is =
-    let none : at + 0 ≡ at = omega arith in
-    let head : page at ≡ first = ap page (sym none) ∙ is 0 (omega arith) in
-    ap (λ (c : List ℕ). c ∷ pages_from page (at + 1) (length pages)) head
-    ∙ ap (λ (ps : Pages). first ∷ ps)
-    (listed pages page (at + 1) (λ i lt.
-    let place : at + 1 + i ≡ at + suc i = omega arith in
-    ap page place ∙ is (suc i) (omega (arith, lt))))
+use Rattle.page_io.proofs.Memory.{listed}
 
 -- with no page changed they are the base's
 pub none_changed : (base changed : Pages) (end : ℕ) → changed ≡ [] → length base + 1 ≡ end

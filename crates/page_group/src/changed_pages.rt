@@ -1,5 +1,6 @@
 // Pages in memory by their own numbers.
 ghost use Rattle.std.specs.Prelude.{◌≡◌, ◌<◌, ◌≤◌, ◌^◌, ℕ, true, [], length, OnOk, IfOk};
+ghost use Rattle.page_io.specs.Calls.{IsStagingCall};
 ghost use Rattle.page_io.specs.Page.{own_number};
 ghost use Rattle.page_io.specs.Store.{bytes_of, overlaid, put_page, has_page, are_in_order};
 ghost use Rattle.page_group.specs.Numbered.{pages_in, AreNumbered};
@@ -38,7 +39,7 @@ impl ChangedPages {
     ghost use Rattle.sect_dev.specs.Device.{LeavesOnly};
     ghost use Rattle.page_io.specs.Answers.{HasDeviceCause};
     ghost use Rattle.page_io.specs.Store.{IsEither, committed_with};
-    ghost use Rattle.page_io.specs.Views.{ReadsOnly, StagesOnly};
+    ghost use Rattle.page_io.specs.Views.{ReadsOnly};
     ghost use Rattle.page_io.specs.declared.store.PageFault.TheVariants.{Device};
     ghost use Rattle.page_group.specs.Base.{MayBegin};
     ghost use Rattle.page_group.specs.Changed.{changed_pages, put_all};
@@ -105,8 +106,7 @@ impl ChangedPages {
     /// Stages all pages in a store with none staged, in rising order of their numbers.
     pub fn stage_into<S: PageStore>(&self, store: &mut S) -> Result<(), PageFault>
         requires { (S.state store.old).staged ≡ [] }
-        ensures stages { StagesOnly S.PageStore store.old store.new }
-        ensures cause { HasDeviceCause (S.faults store.old) (S.faults store.new) result }
+        ensures stages { IsStagingCall S.PageStore store.old store.new result }
         ensures answer { IsStagingAnswer S.reserved (S.state store.old) (S.state store.new) result }
         ensures staged { OnOk result ((S.state store.new).staged ≡ changed_pages self.now) }
     {

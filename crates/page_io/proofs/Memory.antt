@@ -5,7 +5,7 @@ use Rattle.page_io.specs.Store.{Pages, StoreState, bytes_of, pages_from, file_pa
 use Rattle.page_io.specs.declared.page.Page.{Page}
 
 -- the pages of a list, one by one
-listed : (pages : Pages) (page : ℕ → List ℕ) (at : ℕ)
+pub listed : (pages : Pages) (page : ℕ → List ℕ) (at : ℕ)
     → ((i : ℕ) → i < length pages → page (at + i) ≡ get_or pages i [])
     → pages_from page at (length pages) ≡ pages
 listed [] page at is = refl

@@ -1,5 +1,6 @@
 pub mod Answers
 pub mod BucketPages
+pub mod Calls
 pub mod Committing
 pub mod Counts
 pub mod Kept

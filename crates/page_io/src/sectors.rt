@@ -1,6 +1,7 @@
 // Pages over a device.
-ghost use Rattle.std.specs.Prelude.{◌≡◌, ◌≤◌, ◌+◌, ◌*◌, ◌↔◌, ℕ, List, OnOk};
-ghost use Rattle.sect_dev.specs.Device.{IsImageOf, NoNewCandidate, HasCause, LeavesOnly};
+ghost use Rattle.std.specs.Prelude.{◌≡◌, ◌≤◌, ◌+◌, ◌*◌, ℕ, List, OnOk};
+ghost use Rattle.sect_dev.specs.Device.{IsImageOf, NoNewCandidate, LeavesOnly};
+ghost use Rattle.page_io.specs.Calls.{IsDeviceCall};
 ghost use Rattle.page_io.specs.Page.{page_at, IsOutsidePage, IsPartlyWritten, KeepsWhere};
 
 use crate::{Page, SECTORS_PER_PAGE};
@@ -26,9 +27,7 @@ pub fn write_page<D: SectorDev>(dev: &mut D, n: u32, page: &Page) -> Result<(), 
         (IsPartlyWritten (D.candidate dev.old) n page.now.bytes) }
     ensures candidates { D.honest dev.old → (m : ℕ) (c : List ℕ) → IsOutsidePage n m
         → D.candidate dev.new m c → D.candidate dev.old m c }
-    ensures honesty { D.honest dev.new ↔ D.honest dev.old }
-    ensures cause { HasCause (D.faults dev.old) (D.faults dev.new) result }
-    ensures size { D.sectors dev.new ≡ D.sectors dev.old }
+    ensures device { IsDeviceCall D.SectorDev dev.old dev.new result }
 {
     dev.write_run(SECTORS_PER_PAGE * n, &page.bytes)
 }
@@ -45,9 +44,7 @@ pub fn read_page<D: SectorDev>(dev: &mut D, n: u32, page: &mut Page) -> Result<(
     ensures any_moment { D.honest dev.old
         → LeavesOnly D.moment D.left_since dev.old dev.new (IsImageOf (D.candidate dev.old)) }
     ensures still { (D.moment dev.new).at ≡ (D.moment dev.old).at }
-    ensures honesty { D.honest dev.new ↔ D.honest dev.old }
-    ensures cause { HasCause (D.faults dev.old) (D.faults dev.new) result }
-    ensures size { D.sectors dev.new ≡ D.sectors dev.old }
+    ensures device { IsDeviceCall D.SectorDev dev.old dev.new result }
 {
     dev.read_run(SECTORS_PER_PAGE * n, &mut page.bytes)
 }

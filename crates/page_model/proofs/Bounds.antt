@@ -8,7 +8,7 @@ use Rattle.dbm_model.specs.Pairs.{Pair, is_far, IsAllowed}
 use Rattle.page_model.specs.Chain.{Entry, Chain, pages_long, numbers, entries_in, leaf_pairs, pairs_in, pages_of, pages_in, has_room, IsEntry, IsChain}
 use Rattle.page_model.specs.Space.{Space, next_page, next_pages, after_take, after_takes, give, IsExact}
 use Rattle.dbm_model.specs.Sizes.{buckets_for, pages_for, home}
-use Rattle.page_model.specs.Placement.{Placement, pairs_of, in_use, key_bucket, chain_at, put_entry, IsSoundBeside, IsSound, opens_segment, opened, split}
+use Rattle.page_model.specs.Placement.{Placement, pairs_of, in_use, key_bucket, chain_at, put_entry, IsSoundBeside, IsSound, begins_segment, extended, split}
 use Rattle.page_model.specs.PlacementLaws.{LevelIsLow}
 use Rattle.std.proofs.lemmas.Bool.{leb-true}
 use Rattle.std.proofs.lemmas.List.{length-map}
@@ -17,7 +17,7 @@ use Rattle.page_model.proofs.Chains.{near_if, pairs_of_entries, AllByRecursion-l
 use Rattle.page_model.proofs.PairLists.{length-sum_by}
 use Rattle.page_model.proofs.Spaces.{IsExact-take}
 use Rattle.page_model.proofs.Places.{sum_by-put}
-use Rattle.page_model.proofs.Splits.{CanFill, can_fill_rest, can_fill_opened, headed_pages, opened_sound, sum_by-opened}
+use Rattle.page_model.proofs.Splits.{CanFill, can_fill_rest, can_fill_extended, headed_pages, extended_sound, sum_by-extended}
 
 -- each overflow page has a pair
 full_leaves : (leaves : Chain) → AllByRecursion (λ leaf. 0 < length leaf.entries) leaves
@@ -177,39 +177,39 @@ end_filled (x ∷ entries) p limit h few small l =
     (in_use_beside (pages_of entries) (put_entry p x) next.sound entries next.small limit
     (omega arith) (omega arith)))
 
-pub end_opened : (p : Placement) → IsSound p → (limit : ℕ) → length p.chains + 1 ≤ buckets_for limit
+pub end_extended : (p : Placement) → IsSound p → (limit : ℕ) → length p.chains + 1 ≤ buckets_for limit
     → length (pairs_of p) ≤ limit
     → p.space.end ≤ home (record { limit = limit; version = p.bounds.version })
-    → (opened p).space.end ≤ home (record { limit = limit; version = p.bounds.version })
-end_opened p h limit few small l =
+    → (extended p).space.end ≤ home (record { limit = limit; version = p.bounds.version })
+end_extended p h limit few small l =
     let chain = chain_at p p.shape.split in
     let held = pages_of (entries_in chain) in
     let bound = home (record { limit = limit; version = p.bounds.version }) in
     let given = give (drop 1 (numbers chain)) p.space in
-    let can = can_fill_opened p h in
-    let sums = sum_by-opened p h (λ _. 1) in
-    let a = length-sum_by (pairs_of (opened p)) in
+    let can = can_fill_extended p h in
+    let sums = sum_by-extended p h (λ _. 1) in
+    let a = length-sum_by (pairs_of (extended p)) in
     let b = length-sum_by (pairs_of p) in
     let b' = length-sum_by (pairs_in chain) in
     let b'' = ap length (pairs_of_entries chain) ∙ length-map (entries_in chain) (λ e. e.pair) in
-    let chains : length (opened p).chains ≡ length p.chains + 1 =
+    let chains : length (extended p).chains ≡ length p.chains + 1 =
     length-append (set p.chains p.shape.split _) _
     ∙ ap (λ n. n + 1) (length-set p.chains p.shape.split _) in
-    let room = in_use_beside held (opened p) can.sound (entries_in chain) can.small limit
+    let room = in_use_beside held (extended p) can.sound (entries_in chain) can.small limit
     (omega arith) (omega arith) in
     let more = length-append p.segments
-    (cond (opens_segment p) (next_page (after_take given) ∷ []) []) in
-    let c = length-append (1 ∷ p.segments) (flat_map pages_in (opened p).chains) in
-    let d = length-append (1 ∷ (opened p).segments) (flat_map pages_in (opened p).chains) in
-    let e = length-append held (1 ∷ p.segments ++ flat_map pages_in (opened p).chains) in
-    let g = length-append held (in_use (opened p)) in
+    (cond (begins_segment p) (next_page (after_take given) ∷ []) []) in
+    let c = length-append (1 ∷ p.segments) (flat_map pages_in (extended p).chains) in
+    let d = length-append (1 ∷ (extended p).segments) (flat_map pages_in (extended p).chains) in
+    let e = length-append held (1 ∷ p.segments ++ flat_map pages_in (extended p).chains) in
+    let g = length-append held (in_use (extended p)) in
     let headed : (after_take given).end ≤ bound =
-    end_after_take (held ++ (1 ∷ p.segments ++ flat_map pages_in (opened p).chains)) given bound
+    end_after_take (held ++ (1 ∷ p.segments ++ flat_map pages_in (extended p).chains)) given bound
     (headed_pages p h) l (omega arith) in
-    elim (opens_segment p) as (λ b.
-    IsExact (held ++ in_use (opened p)) (cond b (after_take (after_take given)) (after_take given))
+    elim (begins_segment p) as (λ b.
+    IsExact (held ++ in_use (extended p)) (cond b (after_take (after_take given)) (after_take given))
     → (cond b (after_take (after_take given)) (after_take given)).end ≤ bound) [
-      | true ↦ λ e. end_after_take (held ++ in_use (opened p)) (after_take given) bound e headed room
+      | true ↦ λ e. end_after_take (held ++ in_use (extended p)) (after_take given) bound e headed room
       | false ↦ λ e. headed
     ] can.sound.pages
 
@@ -219,16 +219,16 @@ pub end_split : (p : Placement) → IsSound p → (limit : ℕ) → length p.cha
     → (split p).space.end ≤ home (record { limit = limit; version = p.bounds.version })
 end_split p h limit few small l =
     let chain = chain_at p p.shape.split in
-    let sums = sum_by-opened p h (λ _. 1) in
-    let a = length-sum_by (pairs_of (opened p)) in
+    let sums = sum_by-extended p h (λ _. 1) in
+    let a = length-sum_by (pairs_of (extended p)) in
     let b = length-sum_by (pairs_of p) in
     let c = length-sum_by (pairs_in chain) in
     let d = ap length (pairs_of_entries chain) ∙ length-map (entries_in chain) (λ e. e.pair) in
-    let chains : length (opened p).chains ≡ length p.chains + 1 =
+    let chains : length (extended p).chains ≡ length p.chains + 1 =
     length-append (set p.chains p.shape.split _) _
     ∙ ap (λ n. n + 1) (length-set p.chains p.shape.split _) in
-    end_filled (entries_in chain) (opened p) limit (can_fill_opened p h) (omega arith) (omega arith)
-    (end_opened p h limit few small l)
+    end_filled (entries_in chain) (extended p) limit (can_fill_extended p h) (omega arith) (omega arith)
+    (end_extended p h limit few small l)
 
 -- the limit bounds the level
 pub level_low : LevelIsLow

@@ -67,7 +67,7 @@ numbers_of r (Some long) small may = record {
 }
 
 -- slots that are spelled from slot i on are read there
-slots_again : (bytes rest : List ℕ) (ps : List Record) (i end : ℕ) → total_size ps ≤ end
+pub slots_again : (bytes rest : List ℕ) (ps : List Record) (i end : ℕ) → total_size ps ≤ end
     → end ≤ 2048 → AllByRecursion IsRecord ps
     → drop (16 + 6 * i) bytes ≡ slots_bytes (slots_ending end ps) ++ rest
     → slots_from bytes i (length ps) ≡ slots_ending end ps
@@ -115,7 +115,7 @@ told offset key bytes (Some long) short four =
     }
 
 -- records that are spelled from `lo` on are read
-records_again : (bytes rest : List ℕ) (ps : List Record) (end lo : ℕ) → lo + total_size ps ≡ end
+pub records_again : (bytes rest : List ℕ) (ps : List Record) (end lo : ℕ) → lo + total_size ps ≡ end
     → end ≤ 2048 → AllByRecursion IsRecord ps
     → drop lo bytes ≡ records ps ++ rest → map (slot_record bytes) (slots_ending end ps) ≡ ps
 records_again bytes rest [] end lo e most all h = refl

@@ -7,11 +7,11 @@ use Rattle.dbm_model.specs.Pairs.{Pair, is_far, IsAllowed}
 use Rattle.dbm_model.specs.Sizes.{most_taken}
 use Rattle.page_model.specs.Chain.{Entry, pages_long, content_pages, numbers, entries_in, pairs_in, has_room}
 use Rattle.page_model.specs.Space.{Space, after_take, after_takes, give}
-use Rattle.page_model.specs.Placement.{Placement, pairs_of, key_bucket, chain_at, put_entry, entry_for, with_content, put, delete, replace, split, store, opened, opens_segment}
+use Rattle.page_model.specs.Placement.{Placement, pairs_of, key_bucket, chain_at, put_entry, entry_for, with_content, put, delete, replace, split, store, extended, begins_segment}
 use Rattle.page_model.specs.PlacementLaws.{StoreTakesFew}
 use Rattle.page_model.proofs.PairLists.{length-sum_by}
 use Rattle.page_model.proofs.Places.{sum_by-delete, delete_sound, replace_sound}
-use Rattle.page_model.proofs.Splits.{sum_by-opened}
+use Rattle.page_model.proofs.Splits.{sum_by-extended}
 use Rattle.page_model.proofs.Chains.{near_if, pairs_of_entries}
 use Rattle.page_model.proofs.Stores.{length-put-pair}
 
@@ -67,12 +67,12 @@ content_taken version pair allowed = by_far (is_far pair) refl
     by_far true far = let a = ap (λ b. cond b (pages_long (length pair.1)) 0) far in
         let few = long version allowed far in omega arith
 
-pub end_opened : (p : Placement) → (opened p).space.end ≤ p.space.end + 2
-end_opened p =
+pub end_extended : (p : Placement) → (extended p).space.end ≤ p.space.end + 2
+end_extended p =
     let given = give (drop 1 (numbers (chain_at p p.shape.split))) p.space in
     let headed = after_take given in
     let a = end_taken given in
-    elim (opens_segment p) as (λ b.
+    elim (begins_segment p) as (λ b.
     (cond {A = Space} b (after_take headed) headed).end ≤ p.space.end + 2) [
       | true ↦ (let b = end_taken headed in omega arith)
       | false ↦ omega arith
@@ -92,8 +92,8 @@ store_takes_few p pair h small =
     + length (pairs_of p) + most_taken p.bounds.version) [
       | true ↦
           let chain = chain_at q q.shape.split in
-          let f = end_fold (entries_in chain) (opened q) in let g = end_opened q in
-          let i = sum_by-opened q k (λ _. 1) in let j = length-sum_by (pairs_in chain) in let l =
+          let f = end_fold (entries_in chain) (extended q) in let g = end_extended q in
+          let i = sum_by-extended q k (λ _. 1) in let j = length-sum_by (pairs_in chain) in let l =
           length-sum_by (pairs_of q) in
           let m = ap length (pairs_of_entries chain) ∙ length-map (entries_in chain) (λ e. e.pair) in
           omega arith
@@ -132,19 +132,19 @@ kept_fold (x ∷ entries) p =
     let a = kept_put_entry p x in let b = kept_fold entries (put_entry p x) in omega arith
 
 -- the page of the new head is taken first, and then that of its segment
-pub kept_opened : (p : Placement) →
+pub kept_extended : (p : Placement) →
     (after_take (give (drop 1 (numbers (chain_at p p.shape.split))) p.space)).end
-    ≤ (opened p).space.end
-kept_opened p =
+    ≤ (extended p).space.end
+kept_extended p =
     let headed = after_take (give (drop 1 (numbers (chain_at p p.shape.split))) p.space) in
-    elim (opens_segment p) as (λ b.
+    elim (begins_segment p) as (λ b.
     headed.end ≤ (cond {A = Space} b (after_take headed) headed).end) [
       | true ↦ kept_taken headed
       | false ↦ omega arith
     ]
 
-pub kept_split : (p : Placement) → (opened p).space.end ≤ (split p).space.end
-kept_split p = kept_fold (entries_in (chain_at p p.shape.split)) (opened p)
+pub kept_split : (p : Placement) → (extended p).space.end ≤ (split p).space.end
+kept_split p = kept_fold (entries_in (chain_at p p.shape.split)) (extended p)
 
 pub kept_store : (p : Placement) (pair : Pair) → p.space.end ≤ (store p pair).space.end
 kept_store p pair =
@@ -154,7 +154,7 @@ kept_store p pair =
     (λ t. p.space.end ≤ (cond {A = Placement} t (split q) q).space.end) [
       | true ↦
           let b = kept_taken (give (drop 1 (numbers (chain_at q q.shape.split))) q.space) in
-          let c = kept_opened q in let d = kept_split q in
+          let c = kept_extended q in let d = kept_split q in
           omega arith
       | false ↦ omega arith
     ]

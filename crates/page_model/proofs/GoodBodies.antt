@@ -93,13 +93,13 @@ own_counted : (key : Key) (p : Pair) (ps : List Pair) → key ≡ p.0
 own_counted key p ps e = counted key p ps
     ∙ ap (λ b. cond b 1 0 + times key ps) (ap (λ (k : Key). has_key k p) e ∙ own_key p)
 
-abbrev Once : List Pair → Type 0
+abbrev pub Once : List Pair → Type 0
 Once ps = (key : Key) → times key ps ≤ 1
 
-once_left : (ps qs : List Pair) → Once (ps ++ qs) → Once ps
+pub once_left : (ps qs : List Pair) → Once (ps ++ qs) → Once ps
 once_left ps qs h key = omega (arith, h key, sum_by-append (λ q. cond (has_key key q) 1 0) ps qs)
 
-once_right : (ps qs : List Pair) → Once (ps ++ qs) → Once qs
+pub once_right : (ps qs : List Pair) → Once (ps ++ qs) → Once qs
 once_right ps qs h key = omega (arith, h key, sum_by-append (λ q. cond (has_key key q) 1 0) ps qs)
 
 -- ---- records
@@ -120,7 +120,7 @@ absent_records key (e ∷ es) h = (
   absent_records key es (omega (arith, counted key e.pair (map (λ one. one.pair) es))),
 )
 
-distinct_records : (es : List Entry) → Once (map (λ e. e.pair) es)
+pub distinct_records : (es : List Entry) → Once (map (λ e. e.pair) es)
     → AllPairs (λ r q. r.key ≢ q.key) (map record_of es)
 distinct_records [] h = λ i j d less lt. absurd (omega arith)
 distinct_records (e ∷ es) h =
@@ -158,7 +158,7 @@ record_good version e (n ∷ rest) same is ns =
       long_enough = (ltb-true 2026 (length e.pair.0 + length e.pair.1) far, bounds.1);
     }
 
-records_good : (version : Version) (es : List Entry) → AllByRecursion (IsEntry version) es
+pub records_good : (version : Version) (es : List Entry) → AllByRecursion (IsEntry version) es
     → AllByRecursion IsPageNumber (pages_of es) → AllByRecursion IsRecord (map record_of es)
 records_good version [] is ns = tt
 records_good version (e ∷ es) is ns = (

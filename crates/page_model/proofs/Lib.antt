@@ -13,7 +13,7 @@ pub mod Meaning
 pub mod Members
 pub mod Metas
 pub mod Numbers
-pub mod Openings
+pub mod Extensions
 pub mod PageExampleLemmas
 pub mod PairLists
 pub mod Permutations

@@ -16,7 +16,7 @@ use Rattle.page_model.specs.PairLists.{has_key, times}
 use Rattle.page_model.specs.Chain.{Entry, Chain, numbers, entries_in, pairs_in, pages_of, pages_in, IsEntry, IsChain}
 use Rattle.page_model.specs.Space.{next_page, after_take, give, IsExact}
 use Rattle.dbm_model.specs.Sizes.{segments_for}
-use Rattle.page_model.specs.Placement.{Placement, pairs_of, contents, in_use, key_bucket, chain_at, put_entry, IsInPlace, IsSoundBeside, IsSound, bare, bared, opens_segment, opened, split}
+use Rattle.page_model.specs.Placement.{Placement, pairs_of, contents, in_use, key_bucket, chain_at, put_entry, IsInPlace, IsSoundBeside, IsSound, bare, bared, begins_segment, extended, split}
 use Rattle.page_model.specs.PlacementLaws.{PairsAreAllowed}
 use Rattle.page_model.proofs.AddressLemmas.{grown_address}
 use Rattle.page_model.proofs.PairLists.{value_in, value_in-split, times_some, sum_by-flat_map-set}
@@ -192,24 +192,24 @@ module _ (p : Placement) (h : IsSound p) where
   old_below : p.shape.split < length p.chains
   old_below = let e = h.all_buckets in let l = h.split_in in omega arith
 
-  pub value_in-opened : (key : Key)
+  pub value_in-extended : (key : Key)
       → value_in key (pairs_of p) ≡ option_or (value_in key (pairs_in (chain_at p p.shape.split)))
-      (value_in key (pairs_of (opened p)))
-  value_in-opened key =
+      (value_in key (pairs_of (extended p)))
+  value_in-extended key =
       let chain = chain_at p p.shape.split in
-      let e : pairs_of (opened p) ≡ flat_map pairs_in (set p.chains p.shape.split (bared chain))
+      let e : pairs_of (extended p) ≡ flat_map pairs_in (set p.chains p.shape.split (bared chain))
       = flat_map-append pairs_in (set p.chains p.shape.split (bared chain))
       ((bare (next_page (give (drop 1 (numbers chain)) p.space)) ∷ []) ∷ []) ∙ append-nil _ in
       value_in-split key pairs_in p.chains p.shape.split (bared chain) [] (pairs_in-bared chain)
       old_below (h.no_key_twice key)
       ∙ ap (λ xs. option_or (value_in key (pairs_in chain)) (value_in key xs)) (sym e)
 
-  pub sum_by-opened : (f : Pair → ℕ)
-      → sum_by f (pairs_of (opened p)) + sum_by f (pairs_in (chain_at p p.shape.split))
+  pub sum_by-extended : (f : Pair → ℕ)
+      → sum_by f (pairs_of (extended p)) + sum_by f (pairs_in (chain_at p p.shape.split))
       ≡ sum_by f (pairs_of p)
-  sum_by-opened f =
+  sum_by-extended f =
       let chain = chain_at p p.shape.split in
-      let e : pairs_of (opened p) ≡ flat_map pairs_in (set p.chains p.shape.split (bared chain))
+      let e : pairs_of (extended p) ≡ flat_map pairs_in (set p.chains p.shape.split (bared chain))
       = flat_map-append pairs_in (set p.chains p.shape.split (bared chain))
       ((bare (next_page (give (drop 1 (numbers chain)) p.space)) ∷ []) ∷ []) ∙ append-nil _ in
       let a = ap (sum_by f) e in
@@ -217,8 +217,8 @@ module _ (p : Placement) (h : IsSound p) where
       let c = ap (sum_by f) (pairs_in-bared chain) in
       omega arith
 
-  opened_in_place : IsInPlace (grown p.shape) (opened p).chains
-  opened_in_place j l =
+  extended_in_place : IsInPlace (grown p.shape) (extended p).chains
+  extended_in_place j l =
       let chain = chain_at p p.shape.split in
       let cs = set p.chains p.shape.split (bared chain) in
       let last : Chain = bare (next_page (give (drop 1 (numbers chain)) p.space)) ∷ [] in
@@ -251,7 +251,7 @@ module _ (p : Placement) (h : IsSound p) where
 
   -- the pages in use once the new bucket has its head, and those of the contents that are moved
   pub headed_pages : IsExact (pages_of (entries_in (chain_at p p.shape.split))
-      ++ (1 ∷ p.segments ++ flat_map pages_in (opened p).chains))
+      ++ (1 ∷ p.segments ++ flat_map pages_in (extended p).chains))
       (after_take (give (drop 1 (numbers (chain_at p p.shape.split))) p.space))
   headed_pages =
       let chain = chain_at p p.shape.split in
@@ -280,13 +280,13 @@ module _ (p : Placement) (h : IsSound p) where
       let e = sum_by-append f held more in
       omega arith) less
 
-  opened_pages : IsExact (pages_of (entries_in (chain_at p p.shape.split)) ++ in_use (opened p))
-      (opened p).space
-  opened_pages =
+  extended_pages : IsExact (pages_of (entries_in (chain_at p p.shape.split)) ++ in_use (extended p))
+      (extended p).space
+  extended_pages =
       let headed = after_take (give (drop 1 (numbers (chain_at p p.shape.split))) p.space) in
       let held = pages_of (entries_in (chain_at p p.shape.split)) in
-      let chains' = (opened p).chains in
-      elim (opens_segment p) as (λ b.
+      let chains' = (extended p).chains in
+      elim (begins_segment p) as (λ b.
       IsExact (held ++ (1 ∷ (p.segments ++ cond b (next_page headed ∷ []) [])
       ++ flat_map pages_in chains')) (cond b (after_take headed) headed)) [
         | true ↦ IsExact-take (held ++ (1 ∷ p.segments ++ flat_map pages_in chains')) _ headed (λ f.
@@ -307,8 +307,8 @@ module _ (p : Placement) (h : IsSound p) where
   length_cond true x y = refl
   length_cond false x y = refl
 
-  pub opened_sound : IsSoundBeside (pages_of (entries_in (chain_at p p.shape.split))) (opened p)
-  opened_sound =
+  pub extended_sound : IsSoundBeside (pages_of (entries_in (chain_at p p.shape.split))) (extended p)
+  extended_sound =
       let chain = chain_at p p.shape.split in
       let cs = set p.chains p.shape.split (bared chain) in
       let given = give (drop 1 (numbers chain)) p.space in
@@ -320,14 +320,14 @@ module _ (p : Placement) (h : IsSound p) where
         split_in = split_below p.shape h.split_in;
         all_buckets = (let a = buckets_grown p.shape in let b = h.all_buckets in omega arith);
         all_segments = length-append p.segments
-            (cond (opens_segment p) (next_page (after_take given) ∷ []) [])
+            (cond (begins_segment p) (next_page (after_take given) ∷ []) [])
             ∙ ap (λ n. length p.segments + n)
-            (length_cond (opens_segment p) (next_page (after_take given)) 0)
+            (length_cond (begins_segment p) (next_page (after_take given)) 0)
             ∙ more_segments (length p.chains) (length p.segments) h.all_segments
             ∙ ap segments_for (sym one_more);
-        pages = opened_pages;
-        in_place = opened_in_place;
-        no_key_twice = λ q. let a = sum_by-opened (λ pair. cond (has_key q pair) 1 0) in let b =
+        pages = extended_pages;
+        in_place = extended_in_place;
+        no_key_twice = λ q. let a = sum_by-extended (λ pair. cond (has_key q pair) 1 0) in let b =
             h.no_key_twice q in omega arith;
         entered = subst (AllByRecursion (IsEntry p.bounds.version))
             (sym (flat_map-append entries_in cs (last ∷ [])))
@@ -340,25 +340,25 @@ module _ (p : Placement) (h : IsSound p) where
   small_entries : AllByRecursion (IsEntry p.bounds.version) (entries_in (chain_at p p.shape.split))
   small_entries = all_at (IsEntry p.bounds.version) p.chains p.shape.split old_below h.entered
 
-  pub can_fill_opened : CanFill (opened p) (entries_in (chain_at p p.shape.split))
-  can_fill_opened = record {
-    sound = opened_sound;
+  pub can_fill_extended : CanFill (extended p) (entries_in (chain_at p p.shape.split))
+  can_fill_extended = record {
+    sound = extended_sound;
     small = small_entries;
     once = λ key. let chain = chain_at p p.shape.split in
-        let a = sum_by-opened (λ pair. cond (has_key key pair) 1 0) in
+        let a = sum_by-extended (λ pair. cond (has_key key pair) 1 0) in
         let b = h.no_key_twice key in
         let c = ap (times key) (pairs_of_entries chain) in omega arith;
   }
 
-  pub split_filled : IsFilled (opened p) (entries_in (chain_at p p.shape.split)) (split p)
-  split_filled = filled (entries_in (chain_at p p.shape.split)) (opened p) can_fill_opened
+  pub split_filled : IsFilled (extended p) (entries_in (chain_at p p.shape.split)) (split p)
+  split_filled = filled (entries_in (chain_at p p.shape.split)) (extended p) can_fill_extended
 
   pub contents-split : contents (split p) ≡ contents p
   contents-split = same_map nat_list_cmp_total keys_exact _ _ (λ q.
       get-from_entries nat_list_cmp_total (pairs_of (split p)) q ∙ split_filled.values q
-      ∙ ap (λ xs. option_or (value_in q xs) (value_in q (pairs_of (opened p))))
+      ∙ ap (λ xs. option_or (value_in q xs) (value_in q (pairs_of (extended p))))
       (sym (pairs_of_entries (chain_at p p.shape.split)))
-      ∙ sym (value_in-opened q) ∙ sym (get-from_entries nat_list_cmp_total (pairs_of p) q))
+      ∙ sym (value_in-extended q) ∙ sym (get-from_entries nat_list_cmp_total (pairs_of p) q))
 
 all_weaker : {X : Type 0} (P Q : X → Type 0) → ((x : X) → P x → Q x) → (xs : List X)
     → AllByRecursion P xs → AllByRecursion Q xs

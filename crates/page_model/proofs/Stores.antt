@@ -18,7 +18,7 @@ use Rattle.page_model.specs.Placement.{Placement, pairs_of, contents, in_use, ke
 use Rattle.page_model.specs.PlacementLaws.{SplitKeeps, LooksInOneChain, CountsKeys, StoreStaysGood, DeleteStaysGood, FreshIsGood, RaisedIsGood}
 use Rattle.page_model.proofs.PairLists.{times_some, length-sum_by}
 use Rattle.page_model.proofs.Places.{value_at, taken_sound, is_entry_for, sum_by-put, sum_by-delete, delete_sound, replace_sound, contents-replace, contents-delete}
-use Rattle.page_model.proofs.Splits.{split_filled, contents-split, sum_by-opened}
+use Rattle.page_model.proofs.Splits.{split_filled, contents-split, sum_by-extended}
 use Rattle.page_model.proofs.Chains.{pairs_of_entries}
 use Rattle.page_model.proofs.Members.{AllByRecursion-fewer}
 use Rattle.page_model.proofs.Bounds.{in_use_below, in_use_beside, end_after_put, end_after_takes, end_split}
@@ -50,7 +50,7 @@ looks_in_one_chain p key h = get-from_entries nat_list_cmp_total (pairs_of p) ke
 
 length-split : (p : Placement) → IsSound p → length (pairs_of (split p)) ≡ length (pairs_of p)
 length-split p h =
-    let a = (split_filled p h).sums (λ _. 1) in let b = sum_by-opened p h (λ _. 1) in
+    let a = (split_filled p h).sums (λ _. 1) in let b = sum_by-extended p h (λ _. 1) in
     let c = length-sum_by (pairs_of (split p)) in let d = length-sum_by (pairs_of p) in
     let e = ap (sum_by (λ _. 1)) (pairs_of_entries (chain_at p p.shape.split)) in omega arith
 
@@ -141,7 +141,7 @@ sum_by-store p h pair small f =
     let c = sum_by-cons f pair (pairs_of p) in
     elim (ltb (8 * length p.chains) (length (pairs_of q))) as
     (λ t. sum_by f (pairs_of (cond t (split q) q)) ≤ sum_by f (pair ∷ pairs_of p)) [
-      | true ↦ (let d = (split_filled q k).sums f in let e = sum_by-opened q k f in
+      | true ↦ (let d = (split_filled q k).sums f in let e = sum_by-extended q k f in
           let g = ap (sum_by f) (pairs_of_entries (chain_at q q.shape.split)) in omega arith)
       | false ↦ omega arith
     ]

@@ -1,18 +1,17 @@
 -- A placement in version 2, and pages of a version.
-use Rattle.std.proofs.Common.{◌≡◌, ℕ, ◌≤◌, List, [], ◌∷◌, ◌++◌, length, map, drop, flat_map, refl, sym, ◌∙◌, subst, arith}
+use Rattle.std.proofs.Common.{◌≡◌, ℕ, ◌≤◌, List, [], ◌∷◌, ◌++◌, length, map, drop, flat_map, refl, ◌∙◌, arith}
 use Rattle.std.specs.List.{AllByRecursion}
 use Rattle.std.proofs.lemmas.Bool.{leb-true, ltb-true}
-use Rattle.dbm_model.specs.Bounds.{Version, V1, V2, upgraded}
-use Rattle.page_model.specs.Chain.{Entry, Chain, record_with, record_of, numbers, entries_in, IsEntry}
-use Rattle.page_model.specs.Pages.{Body, NumberedBody, HeadPage}
+use Rattle.dbm_model.specs.Bounds.{Version, V1, V2}
+use Rattle.page_model.specs.Chain.{Entry, Chain, record_with, record_of, entries_in, IsEntry}
 use Rattle.page_model.specs.Valid.{IsOf, IsBodyOf}
-use Rattle.page_model.specs.Placement.{Placement, contents, raised, IsGood, IsSound}
-use Rattle.page_model.specs.PageBodies.{IsSpelled, overflow_bodies, leaf_bodies, content_bodies, entry_bodies, chain_bodies, segment_bodies, free_bodies, heads_of}
+use Rattle.page_model.specs.Placement.{raised}
+use Rattle.page_model.specs.PageBodies.{overflow_bodies, leaf_bodies, content_bodies, entry_bodies, chain_bodies, segment_bodies, free_bodies, heads_of}
 use Rattle.page_model.specs.BodyLaws.{RaisedRewrites, BodiesAreOfVersion}
 use Rattle.page_model.proofs.Chains.{AllByRecursion-append, AllByRecursion-left, AllByRecursion-right}
 use Rattle.page_model.proofs.Flat.{flat_is_contents}
 use Rattle.page_model.proofs.GoodBodies.{far_pages}
-use Rattle.page_model.proofs.Openings.{meta_rewrites}
+use Rattle.page_model.proofs.Extensions.{meta_rewrites}
 use Rattle.page_model.proofs.Stores.{raised_is_good}
 
 pub raised_rewrites : RaisedRewrites
@@ -37,7 +36,7 @@ record_of_version V1 e (n ∷ rest) same is =
     absurd (let far = far_pages V1 e is (omega arith) in
     let less = leb-true _ 2026 is.allowed in let more = ltb-true 2026 _ far in omega arith)
 
-records_of_version : (version : Version) (es : List Entry) → AllByRecursion (IsEntry version) es
+pub records_of_version : (version : Version) (es : List Entry) → AllByRecursion (IsEntry version) es
     → AllByRecursion (IsOf version) (map record_of es)
 records_of_version version [] h = tt
 records_of_version version (e ∷ es) h =

@@ -10,9 +10,9 @@ use Rattle.page_model.specs.Pages.{Body}
 use Rattle.page_model.specs.Valid.{IsValidBody, IsBodyOf}
 use Rattle.page_model.specs.Chain.{Entry, entries_in, pages_of, add, remove, has_room, freed}
 use Rattle.page_model.specs.Space.{next_page, after_take, give}
-use Rattle.page_model.specs.Placement.{Placement, contents, put_entry, put, entry_for, with_content, key_bucket, chain_at, delete, store, opened, raised, IsSoundBeside, IsSound, IsGood, MayStore}
+use Rattle.page_model.specs.Placement.{Placement, contents, put_entry, put, entry_for, with_content, key_bucket, chain_at, delete, store, extended, raised, IsSoundBeside, IsSound, IsGood, MayStore}
 use Rattle.page_model.specs.PageBodies.{IsSpelled, AreRead, meta_body, page_bodies, lower_bodies, entry_bodies}
-use Rattle.page_model.specs.Rewrites.{IsRewritten, AreRewritten, opened_bodies}
+use Rattle.page_model.specs.Rewrites.{IsRewritten, AreRewritten, extended_bodies}
 use Rattle.page_model.specs.Meaning.{flat_pairs, StandsFor, said_by, ArePages, PagesStandFor}
 
 -- each page of a good placement has its spelling
@@ -92,11 +92,11 @@ DeleteRewrites = (p : Placement) (at at' : ℕ → Body) (key : Key) → IsSound
     IsRewritten at at' (remove key chain) (give (freed key chain) p.space)) →
     AreRead at' (lower_bodies (delete p key))
 
--- where a bucket is opened and its pages are rewritten so, all pages but meta say the placement
+-- where a bucket is added and its pages are rewritten so, all pages but meta say the placement
 -- with one bucket more, and the contents of the emptied bucket stay
-abbrev pub OpenRewrites : Type 0
-OpenRewrites = (p : Placement) (at at' : ℕ → Body) → IsSound p → AreRead at (lower_bodies p)
-    → AreRewritten at at' (opened_bodies p) → AreRead at' (lower_bodies (opened p))
+abbrev pub ExtendRewrites : Type 0
+ExtendRewrites = (p : Placement) (at at' : ℕ → Body) → IsSound p → AreRead at (lower_bodies p)
+    → AreRewritten at at' (extended_bodies p) → AreRead at' (lower_bodies (extended p))
     × AreRead at' (flat_map entry_bodies (entries_in (chain_at p p.shape.split)))
 
 -- a placement goes to version 2 where the meta page alone is rewritten

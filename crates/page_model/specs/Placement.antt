@@ -85,27 +85,27 @@ bared [] = []
 bared (head ∷ overflow) = bare head.number ∷ []
 
 -- the next bucket is the first of a segment
-abbrev pub opens_segment : Placement → Bool
-opens_segment p = length p.chains % 508 == 0
+abbrev pub begins_segment : Placement → Bool
+begins_segment p = length p.chains % 508 == 0
 
 -- bucket `split` is emptied and its overflow pages are free; a page is taken for the head of a new
 -- bucket, and then one for its segment where that is new
-abbrev pub opened : Placement → Placement
-opened p =
+abbrev pub extended : Placement → Placement
+extended p =
     let chain = chain_at p p.shape.split in
     let given = give (drop 1 (numbers chain)) p.space in
     let headed = after_take given in
     record {
       bounds = p.bounds;
       shape = grown p.shape;
-      segments = p.segments ++ (if opens_segment p then next_page headed ∷ [] else []);
+      segments = p.segments ++ (if begins_segment p then next_page headed ∷ [] else []);
       chains = slice_set p.chains p.shape.split (bared chain) ++ (bare (next_page given) ∷ []) ∷ [];
-      space = if opens_segment p then after_take headed else headed;
+      space = if begins_segment p then after_take headed else headed;
     }
 
 -- the records of bucket `split` are put again, in one bucket more
 abbrev pub split : Placement → Placement
-split p = fold put_entry (opened p) (entries_in (chain_at p p.shape.split))
+split p = fold put_entry (extended p) (entries_in (chain_at p p.shape.split))
 
 -- a pair takes the place of its key's, and where there are then too many pairs, one bucket is split
 abbrev pub store : Placement → Pair → Placement

@@ -3,7 +3,7 @@ use Rattle.std.specs.Prelude.{◌≡◌, ℕ, ◌+◌, ◌-◌, ◌*◌, List, [
 use Rattle.page_model.specs.Pages.{Body, NumberedBody}
 use Rattle.page_model.specs.Chain.{Leaf, Chain, numbers, pages_in}
 use Rattle.page_model.specs.Space.{Space, next_page, give, times_of}
-use Rattle.page_model.specs.Placement.{Placement, chain_at, bare, bared, opened}
+use Rattle.page_model.specs.Placement.{Placement, chain_at, bare, bared, extended}
 use Rattle.page_model.specs.PageBodies.{chain_bodies, free_bodies, segment_bodies, heads_of, AreRead}
 
 -- no page outside this chain and the free list is changed
@@ -31,9 +31,9 @@ last_segment p = let before = length p.segments - 1 in
 abbrev pub new_head : Placement → Leaf
 new_head p = bare (next_page (give (drop 1 (numbers (chain_at p p.shape.split))) p.space))
 
--- what is rewritten where a bucket is opened: the emptied head, the new head, the last segment page
+-- what is rewritten where a bucket is added: the emptied head, the new head, the last segment page
 -- and the free list
-abbrev pub opened_bodies : Placement → List NumberedBody
-opened_bodies p =
+abbrev pub extended_bodies : Placement → List NumberedBody
+extended_bodies p =
     chain_bodies (bared (chain_at p p.shape.split)) ++ chain_bodies (new_head p ∷ [])
-    ++ last_segment (opened p) ++ free_bodies (opened p).space.free
+    ++ last_segment (extended p) ++ free_bodies (extended p).space.free

@@ -1,6 +1,6 @@
 // Laws of the pages of a placement. What each says stands in `specs/BodyLaws.antt`.
 ghost use Rattle.page_model.specs.PageExamples.{NewPages, NinePairPages, FreedPages, OverflowPages, FarPages};
-ghost use Rattle.page_model.specs.BodyLaws.{BodiesAreValid, PagesReadExactly, FlatIsContents, OneMap, OneMeaning, PagesHaveOneMeaning, GoodPagesStand, StoredStands, DeletedStands, PutEntryRewrites, PutRewrites, DeleteRewrites, OpenRewrites, MetaRewrites, RaisedRewrites, BodiesAreOfVersion};
+ghost use Rattle.page_model.specs.BodyLaws.{BodiesAreValid, PagesReadExactly, FlatIsContents, OneMap, OneMeaning, PagesHaveOneMeaning, GoodPagesStand, StoredStands, DeletedStands, PutEntryRewrites, PutRewrites, DeleteRewrites, ExtendRewrites, MetaRewrites, RaisedRewrites, BodiesAreOfVersion};
 
 /// What a good placement says of its pages can be spelled.
 pub fn bodies_are_valid()
@@ -63,9 +63,9 @@ pub fn delete_rewrites()
     ensures { DeleteRewrites }
 {}
 
-/// A bucket is opened by a change of two heads, the last segment page and the free list.
-pub fn open_rewrites()
-    ensures { OpenRewrites }
+/// A bucket is added by a change of two heads, the last segment page and the free list.
+pub fn extend_rewrites()
+    ensures { ExtendRewrites }
 {}
 
 /// Once all other pages say a placement, the meta page alone is left to rewrite.

@@ -8,8 +8,8 @@ mod page_laws;
 mod placement_laws;
 
 pub use body_laws::{
-    bodies_are_of_version, bodies_are_valid, delete_rewrites, deleted_stands, flat_is_contents,
-    good_pages_stand, meta_rewrites, one_map, one_meaning, open_rewrites, page_examples,
+    bodies_are_of_version, bodies_are_valid, delete_rewrites, deleted_stands, extend_rewrites,
+    flat_is_contents, good_pages_stand, meta_rewrites, one_map, one_meaning, page_examples,
     pages_have_one_meaning, pages_read_exactly, put_entry_rewrites, put_rewrites, raised_rewrites,
     stored_stands,
 };

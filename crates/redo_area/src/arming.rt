@@ -1,11 +1,11 @@
 // The first half of a commit, where pages of the last one may still wait.
-ghost use Rattle.std.specs.Prelude.{◌≡◌, ◌≤◌, ◌<◌, ◌+◌, ◌-◌, ◌/◌, ◌↔◌, ℕ, true, length, take, max, OnOk, IfOk, IfSome, IfNone, IsTrue, IsFalse, slice_index_or, []};
-ghost use Rattle.sect_dev.specs.Device.{HasCause, LeavesOnly};
+ghost use Rattle.std.specs.Prelude.{◌≡◌, ◌≤◌, ◌<◌, ◌+◌, ◌-◌, ◌/◌, ℕ, true, length, take, max, OnOk, IfOk, IfSome, IfNone, IsTrue, IsFalse, slice_index_or, []};
+ghost use Rattle.sect_dev.specs.Device.{LeavesOnly};
+ghost use Rattle.page_io.specs.Calls.{IsDeviceCall};
 ghost use Rattle.page_io.specs.Page.{page_at, own_number};
-ghost use Rattle.page_io.specs.Store.{bytes_of, file_pages, overlaid, are_in_order, has_page, committed_with, IsEither};
+ghost use Rattle.page_io.specs.Store.{bytes_of, file_pages, overlaid, has_page, committed_with, IsEither};
 ghost use Rattle.redo_area.specs.File.{settled, IsArmed};
-ghost use Rattle.redo_area.specs.Arming.{IsBeside};
-ghost use Rattle.redo_area.specs.Settling.{MayWait};
+ghost use Rattle.redo_area.specs.Arming.{IsCommit, IsWaiting, IsBeside};
 
 use crate::settling::bring_home;
 use crate::steps::{arm, arm_grown, arm_next};
@@ -104,17 +104,9 @@ pub fn arm_over<D: SectorDev>(
     new_end: u32,
     pages: &[Page],
 ) -> Result<Armed, DevFault>
-    requires waits { D.honest dev.old
-        → MayWait (D.sectors dev.old / 4) old_end start (bytes_of waiting.now)
-        (D.candidate dev.old) (D.seen dev.old) }
-    requires old_least { 4 ≤ old_end }
-    requires behind { old_end ≤ start }
-    requires within { start ≤ D.sectors dev.old / 4 }
-    requires rising { are_in_order 1 old_end (bytes_of waiting.now) ≡ true }
-    requires some { 0 < length pages.now }
-    requires least { 4 ≤ new_end }
+    requires waiting { IsWaiting D.SectorDev dev.old old_end start (bytes_of waiting.now) }
+    requires pages { IsCommit new_end pages.now }
     requires room { max old_end new_end + length pages.now ≤ D.sectors dev.old / 4 }
-    requires in_order { are_in_order 1 new_end (bytes_of pages.now) ≡ true }
     requires grown { (n : ℕ) → old_end ≤ n → n < new_end → has_page (bytes_of pages.now) n ≡ true }
 
     // Every image of every moment since the start settles to the old pages, those that waited among
@@ -139,9 +131,7 @@ pub fn arm_over<D: SectorDev>(
         (new_end ≤ armed.place) × (armed.place ≤ D.sectors dev.old / 4)) }
     ensures images { IfOk result (λ armed.
         (0 < armed.images) × (armed.images ≤ length pages.now)) }
-    ensures honesty { D.honest dev.new ↔ D.honest dev.old }
-    ensures cause { HasCause (D.faults dev.old) (D.faults dev.new) result }
-    ensures size { D.sectors dev.new ≡ D.sectors dev.old }
+    ensures device { IsDeviceCall D.SectorDev dev.old dev.new result }
 {
     let changed = changed_in(pages, old_end);
     if changed > 0 && pages.len() - changed >= least_new(waiting) {
@@ -169,17 +159,9 @@ fn arm_all<D: SectorDev>(
     new_end: u32,
     pages: &[Page],
 ) -> Result<u32, DevFault>
-    requires waits { D.honest dev.old
-        → MayWait (D.sectors dev.old / 4) old_end start (bytes_of waiting.now)
-        (D.candidate dev.old) (D.seen dev.old) }
-    requires old_least { 4 ≤ old_end }
-    requires behind { old_end ≤ start }
-    requires within { start ≤ D.sectors dev.old / 4 }
-    requires rising { are_in_order 1 old_end (bytes_of waiting.now) ≡ true }
-    requires some { 0 < length pages.now }
-    requires least { 4 ≤ new_end }
+    requires waiting { IsWaiting D.SectorDev dev.old old_end start (bytes_of waiting.now) }
+    requires pages { IsCommit new_end pages.now }
     requires room { max old_end new_end + length pages.now ≤ D.sectors dev.old / 4 }
-    requires in_order { are_in_order 1 new_end (bytes_of pages.now) ≡ true }
     requires grown { (n : ℕ) → old_end ≤ n → n < new_end → has_page (bytes_of pages.now) n ≡ true }
     ensures any_moment { D.honest dev.old
         → let before = file_pages (overlaid (bytes_of waiting.now) (page_at (D.seen dev.old)))
@@ -196,9 +178,7 @@ fn arm_all<D: SectorDev>(
         (file_pages (overlaid (bytes_of waiting.now) (page_at (D.seen dev.old))) old_end)
         (bytes_of pages.now) new_end) }
     ensures place { IfOk result (λ place. (new_end ≤ place) × (place ≤ D.sectors dev.old / 4)) }
-    ensures honesty { D.honest dev.new ↔ D.honest dev.old }
-    ensures cause { HasCause (D.faults dev.old) (D.faults dev.new) result }
-    ensures size { D.sectors dev.new ≡ D.sectors dev.old }
+    ensures device { IsDeviceCall D.SectorDev dev.old dev.new result }
 {
     let least = old_end.max(new_end);
     let capacity = dev.capacity() / 4;

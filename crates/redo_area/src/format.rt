@@ -1,6 +1,7 @@
 // A new file.
-ghost use Rattle.std.specs.Prelude.{◌≡◌, ◌≤◌, ◌<◌, ◌+◌, ◌/◌, ◌↔◌, ℕ, List, length, OnOk};
-ghost use Rattle.sect_dev.specs.Device.{HasCause, LeavesOnly};
+ghost use Rattle.std.specs.Prelude.{◌≡◌, ◌≤◌, ◌<◌, ◌+◌, ◌/◌, ℕ, List, length, OnOk};
+ghost use Rattle.sect_dev.specs.Device.{LeavesOnly};
+ghost use Rattle.page_io.specs.Calls.{IsDeviceCall};
 ghost use Rattle.sect_dev.specs.Sector.{zeros};
 ghost use Rattle.page_io.specs.Page.{page_at};
 ghost use Rattle.page_io.specs.Store.{file_pages, bytes_of};
@@ -27,9 +28,7 @@ pub fn format_pages<D: SectorDev>(dev: &mut D, pages: &[Page]) -> Result<(), Dev
     ensures pages { D.honest dev.old
         → OnOk result (file_pages (page_at (D.seen dev.new)) (1 + length pages.now)
         ≡ bytes_of pages.now) }
-    ensures honesty { D.honest dev.new ↔ D.honest dev.old }
-    ensures cause { HasCause (D.faults dev.old) (D.faults dev.new) result }
-    ensures size { D.sectors dev.new ≡ D.sectors dev.old }
+    ensures device { IsDeviceCall D.SectorDev dev.old dev.new result }
 {
     let end = 1 + pages.len() as u32;
     put_images(dev, 1, pages)?;

@@ -1,6 +1,7 @@
 // The end of a commit that a stop cut short.
 ghost use Rattle.std.specs.Prelude.{◌≡◌, ◌≢◌, ◌≤◌, ◌<◌, ◌+◌, ◌*◌, ◌/◌, ◌↔◌, ℕ, List, true, false, IfOk, IfErr, OnOk, IsErrOf};
-ghost use Rattle.sect_dev.specs.Device.{IsImageOf, IsStable, NoNewCandidate, HasCause, MoreFaults, LeavesOnly};
+ghost use Rattle.sect_dev.specs.Device.{IsImageOf, IsStable, NoNewCandidate, MoreFaults, LeavesOnly};
+ghost use Rattle.page_io.specs.Calls.{IsDeviceCall};
 ghost use Rattle.page_io.specs.Page.{page_at, KeepsWhere};
 ghost use Rattle.page_io.specs.Store.{file_of, nothing, file_pages, overlaid, are_in_order};
 ghost use Rattle.redo_area.specs.Header.{header_of};
@@ -41,9 +42,7 @@ fn copy_images<D: SectorDev>(
         → IfOk result (λ good. (n : ℕ)
         → page_at (D.seen dev.new) n ≡ overlaid (redo_images (D.seen dev.old) start count)
         (page_at (D.seen dev.old)) n) }
-    ensures honesty { D.honest dev.new ↔ D.honest dev.old }
-    ensures cause { HasCause (D.faults dev.old) (D.faults dev.new) result }
-    ensures size { D.sectors dev.new ≡ D.sectors dev.old }
+    ensures device { IsDeviceCall D.SectorDev dev.old dev.new result }
 {
     let mut page = Page::blank();
     for i in 0..count {
@@ -80,9 +79,7 @@ fn replay<D: SectorDev>(dev: &mut D, start: u32, count: u32, end: u32) -> Result
         → IfOk result (λ good. file_pages (page_at (D.seen dev.new)) end
         ≡ file_pages (overlaid (redo_images (D.seen dev.old) start count)
         (page_at (D.seen dev.old))) end) }
-    ensures honesty { D.honest dev.new ↔ D.honest dev.old }
-    ensures cause { HasCause (D.faults dev.old) (D.faults dev.new) result }
-    ensures size { D.sectors dev.new ≡ D.sectors dev.old }
+    ensures device { IsDeviceCall D.SectorDev dev.old dev.new result }
 {
     let good = copy_images(dev, start, count, end)?;
     if !good {
@@ -109,9 +106,7 @@ fn check_images<D: SectorDev>(
         → NoNewCandidate (D.candidate dev.old) (D.candidate dev.new) }
     ensures any_moment { D.honest dev.old
         → LeavesOnly D.moment D.left_since dev.old dev.new (IsImageOf (D.candidate dev.old)) }
-    ensures honesty { D.honest dev.new ↔ D.honest dev.old }
-    ensures cause { HasCause (D.faults dev.old) (D.faults dev.new) result }
-    ensures size { D.sectors dev.new ≡ D.sectors dev.old }
+    ensures device { IsDeviceCall D.SectorDev dev.old dev.new result }
 {
     let mut page = Page::blank();
     let mut least: u64 = 1;
@@ -127,7 +122,7 @@ fn check_images<D: SectorDev>(
 }
 
 /// Syncs, and reads the commit sector.
-fn look<D: SectorDev>(dev: &mut D) -> Result<[u8; 512], DevFault>
+fn sync_and_read<D: SectorDev>(dev: &mut D) -> Result<[u8; 512], DevFault>
     requires { 0 < D.sectors dev.old }
     ensures any_moment { D.honest dev.old
         → LeavesOnly D.moment D.left_since dev.old dev.new (IsImageOf (D.candidate dev.old)) }
@@ -135,9 +130,7 @@ fn look<D: SectorDev>(dev: &mut D) -> Result<[u8; 512], DevFault>
     ensures stable { D.honest dev.old
         → OnOk result (IsStable (D.candidate dev.new) (D.seen dev.new)) }
     ensures read { D.honest dev.old → IfOk result (λ content. content ≡ D.seen dev.new 0) }
-    ensures honesty { D.honest dev.new ↔ D.honest dev.old }
-    ensures cause { HasCause (D.faults dev.old) (D.faults dev.new) result }
-    ensures size { D.sectors dev.new ≡ D.sectors dev.old }
+    ensures device { IsDeviceCall D.SectorDev dev.old dev.new result }
 {
     let mut content = [0; 512];
     dev.sync()?;
@@ -146,12 +139,7 @@ fn look<D: SectorDev>(dev: &mut D) -> Result<[u8; 512], DevFault>
 }
 
 /// Ends a commit whose commit sector is armed. It answers false where the redo images are damaged.
-fn finish_armed<D: SectorDev>(
-    dev: &mut D,
-    end: u32,
-    start: u32,
-    count: u32,
-) -> Result<bool, DevFault>
+fn end_armed<D: SectorDev>(dev: &mut D, end: u32, start: u32, count: u32) -> Result<bool, DevFault>
     requires stable { D.honest dev.old → IsStable (D.candidate dev.old) (D.seen dev.old) }
     requires header { D.honest dev.old
         → header_of (D.sectors dev.old / 4) (D.seen dev.old 0) ≡ Armed end start count }
@@ -172,9 +160,7 @@ fn finish_armed<D: SectorDev>(
         → IfOk result (λ good. good ≡ false → IsStable (D.candidate dev.new) (D.seen dev.new)
         × (D.seen dev.new ≡ D.seen dev.old)
         × (settled (D.sectors dev.old / 4) (D.seen dev.old) ≡ nothing)) }
-    ensures honesty { D.honest dev.new ↔ D.honest dev.old }
-    ensures cause { HasCause (D.faults dev.old) (D.faults dev.new) result }
-    ensures size { D.sectors dev.new ≡ D.sectors dev.old }
+    ensures device { IsDeviceCall D.SectorDev dev.old dev.new result }
 {
     let sound = check_images(dev, start, count, end)?;
     if !sound {
@@ -208,14 +194,14 @@ pub fn recover<D: SectorDev>(dev: &mut D) -> Result<u32, OpenFault>
     ensures size { D.sectors dev.new ≡ D.sectors dev.old }
 {
     let capacity = dev.capacity() / 4;
-    let content = match look(dev) {
+    let content = match sync_and_read(dev) {
         Ok(content) => content,
         Err(_) => return Err(OpenFault::Device),
     };
     match read_header(capacity, &content) {
         Header::Blank => Err(OpenFault::Blank),
         Header::Clear { end } => Ok(end),
-        Header::Armed { end, start, count } => match finish_armed(dev, end, start, count) {
+        Header::Armed { end, start, count } => match end_armed(dev, end, start, count) {
             Ok(true) => Ok(end),
             Ok(false) => Err(OpenFault::Damaged),
             Err(_) => Err(OpenFault::Device),

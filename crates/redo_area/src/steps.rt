@@ -1,9 +1,11 @@
 // The steps of a commit.
-ghost use Rattle.std.specs.Prelude.{◌≡◌, ◌⊎◌, ◌≤◌, ◌<◌, ◌+◌, ◌*◌, ◌/◌, ◌↔◌, ℕ, List, length, true, OnOk, slice_index_or, []};
-ghost use Rattle.sect_dev.specs.Device.{IsImageOf, IsStable, with_sector, with_candidate, HasCause, LeavesOnly};
+ghost use Rattle.std.specs.Prelude.{◌≡◌, ◌≤◌, ◌<◌, ◌+◌, ◌*◌, ◌/◌, ℕ, List, length, max, true, OnOk, slice_index_or, []};
+ghost use Rattle.sect_dev.specs.Device.{IsImageOf, IsStable, with_sector, with_candidate, LeavesOnly};
+ghost use Rattle.page_io.specs.Calls.{IsDeviceCall};
 ghost use Rattle.page_io.specs.Page.{page_at, own_number, IsOutside, KeepsWhere};
 ghost use Rattle.page_io.specs.Store.{file_of, pages_from, file_pages, overlaid, are_in_order, bytes_of, IsEither};
 ghost use Rattle.redo_area.specs.File.{settled, IsOutsideAll, IsAtRest, IsArmed};
+ghost use Rattle.redo_area.specs.Arming.{IsCommit, HasRoomAt};
 
 use crate::header::{armed_sector, clear_sector};
 use page_io::{Page, write_page};
@@ -25,9 +27,7 @@ fn write_images<D: SectorDev>(dev: &mut D, start: u32, pages: &[Page]) -> Result
     ensures written { D.honest dev.old
         → OnOk result (pages_from (page_at (D.seen dev.new)) start (length pages.now)
         ≡ bytes_of pages.now) }
-    ensures honesty { D.honest dev.new ↔ D.honest dev.old }
-    ensures cause { HasCause (D.faults dev.old) (D.faults dev.new) result }
-    ensures size { D.sectors dev.new ≡ D.sectors dev.old }
+    ensures device { IsDeviceCall D.SectorDev dev.old dev.new result }
 {
     let mut n = start;
     for page in pages {
@@ -52,9 +52,7 @@ fn write_homes<D: SectorDev>(dev: &mut D, pages: &[Page]) -> Result<(), DevFault
     ensures written { D.honest dev.old
         → OnOk result ((n : ℕ) → page_at (D.seen dev.new) n
         ≡ overlaid (bytes_of pages.now) (page_at (D.seen dev.old)) n) }
-    ensures honesty { D.honest dev.new ↔ D.honest dev.old }
-    ensures cause { HasCause (D.faults dev.old) (D.faults dev.new) result }
-    ensures size { D.sectors dev.new ≡ D.sectors dev.old }
+    ensures device { IsDeviceCall D.SectorDev dev.old dev.new result }
 {
     for page in pages {
         write_page(dev, page.own(), page)?;
@@ -71,9 +69,7 @@ pub fn put_header<D: SectorDev>(dev: &mut D, content: &[u8; 512]) -> Result<(), 
         → OnOk result (D.seen dev.new ≡ with_sector (D.seen dev.old) 0 content.now) }
     ensures stable { D.honest dev.old
         → OnOk result (IsStable (D.candidate dev.new) (D.seen dev.new)) }
-    ensures honesty { D.honest dev.new ↔ D.honest dev.old }
-    ensures cause { HasCause (D.faults dev.old) (D.faults dev.new) result }
-    ensures size { D.sectors dev.new ≡ D.sectors dev.old }
+    ensures device { IsDeviceCall D.SectorDev dev.old dev.new result }
 {
     dev.write(0, content)?;
     dev.sync()
@@ -92,9 +88,7 @@ pub fn put_images<D: SectorDev>(dev: &mut D, start: u32, pages: &[Page]) -> Resu
         ≡ bytes_of pages.now) }
     ensures stable { D.honest dev.old
         → OnOk result (IsStable (D.candidate dev.new) (D.seen dev.new)) }
-    ensures honesty { D.honest dev.new ↔ D.honest dev.old }
-    ensures cause { HasCause (D.faults dev.old) (D.faults dev.new) result }
-    ensures size { D.sectors dev.new ≡ D.sectors dev.old }
+    ensures device { IsDeviceCall D.SectorDev dev.old dev.new result }
 {
     write_images(dev, start, pages)?;
     dev.sync()
@@ -115,9 +109,7 @@ fn put_homes<D: SectorDev>(dev: &mut D, pages: &[Page]) -> Result<(), DevFault>
         ≡ overlaid (bytes_of pages.now) (page_at (D.seen dev.old)) n) }
     ensures stable { D.honest dev.old
         → OnOk result (IsStable (D.candidate dev.new) (D.seen dev.new)) }
-    ensures honesty { D.honest dev.new ↔ D.honest dev.old }
-    ensures cause { HasCause (D.faults dev.old) (D.faults dev.new) result }
-    ensures size { D.sectors dev.new ≡ D.sectors dev.old }
+    ensures device { IsDeviceCall D.SectorDev dev.old dev.new result }
 {
     write_homes(dev, pages)?;
     dev.sync()
@@ -134,12 +126,10 @@ pub fn arm<D: SectorDev>(
 ) -> Result<(), DevFault>
     requires rest { D.honest dev.old
         → IsAtRest (D.sectors dev.old / 4) old_end (D.candidate dev.old) (D.seen dev.old) }
-    requires some { 0 < length pages.now }
+    requires pages { IsCommit new_end pages.now }
     requires old { old_end ≤ start }
     requires new { new_end ≤ start }
-    requires least { 4 ≤ new_end }
     requires room { start + length pages.now ≤ D.sectors dev.old / 4 }
-    requires in_order { are_in_order 1 new_end (bytes_of pages.now) ≡ true }
 
     // Every image of every moment since the start settles to the old pages or to the new.
     ensures any_moment { D.honest dev.old → LeavesOnly D.moment D.left_since dev.old dev.new
@@ -151,9 +141,7 @@ pub fn arm<D: SectorDev>(
         (D.candidate dev.new) (D.seen dev.new)) }
     ensures pages { D.honest dev.old
         → OnOk result ((m : ℕ) → 0 < m → m < 4 * start → D.seen dev.new m ≡ D.seen dev.old m) }
-    ensures honesty { D.honest dev.new ↔ D.honest dev.old }
-    ensures cause { HasCause (D.faults dev.old) (D.faults dev.new) result }
-    ensures size { D.sectors dev.new ≡ D.sectors dev.old }
+    ensures device { IsDeviceCall D.SectorDev dev.old dev.new result }
 {
     let count = pages.len() as u32;
     put_images(dev, start, pages)?;
@@ -162,7 +150,7 @@ pub fn arm<D: SectorDev>(
 }
 
 /// Steps 3 and 4: the pages are on the disk at their own numbers, and the commit sector is clear.
-pub fn finish<D: SectorDev>(
+pub fn disarm<D: SectorDev>(
     dev: &mut D,
     start: u32,
     end: u32,
@@ -187,9 +175,7 @@ pub fn finish<D: SectorDev>(
     ensures pages { D.honest dev.old
         → OnOk result (file_pages (page_at (D.seen dev.new)) end
         ≡ file_pages (overlaid (bytes_of pages.now) (page_at (D.seen dev.old))) end) }
-    ensures honesty { D.honest dev.new ↔ D.honest dev.old }
-    ensures cause { HasCause (D.faults dev.old) (D.faults dev.new) result }
-    ensures size { D.sectors dev.new ≡ D.sectors dev.old }
+    ensures device { IsDeviceCall D.SectorDev dev.old dev.new result }
 {
     put_homes(dev, pages)?;
     put_header(dev, &clear_sector(end))?;
@@ -213,14 +199,9 @@ pub fn arm_next<D: SectorDev>(
         (D.candidate dev.old) (D.seen dev.old) }
     requires rising { are_in_order 1 old_end (bytes_of waiting.now) ≡ true }
     requires behind { old_end ≤ start }
-    requires apart { (place + length pages.now ≤ start)
-        ⊎ (start + length waiting.now ≤ place) }
-    requires some { 0 < length pages.now }
-    requires old { old_end ≤ place }
-    requires new { new_end ≤ place }
-    requires least { 4 ≤ new_end }
-    requires room { place + length pages.now ≤ D.sectors dev.old / 4 }
-    requires in_order { are_in_order 1 new_end (bytes_of pages.now) ≡ true }
+    requires pages { IsCommit new_end pages.now }
+    requires place { HasRoomAt (max old_end new_end) (length pages.now) start (length waiting.now)
+        (D.sectors dev.old / 4) place }
 
     // Every image of every moment since the start settles to the old pages, those that waited among
     // them, or to the new.
@@ -236,9 +217,7 @@ pub fn arm_next<D: SectorDev>(
     ensures pages { D.honest dev.old
         → OnOk result ((n : ℕ) → 0 < n → n < place → page_at (D.seen dev.new) n
         ≡ overlaid (bytes_of waiting.now) (page_at (D.seen dev.old)) n) }
-    ensures honesty { D.honest dev.new ↔ D.honest dev.old }
-    ensures cause { HasCause (D.faults dev.old) (D.faults dev.new) result }
-    ensures size { D.sectors dev.new ≡ D.sectors dev.old }
+    ensures device { IsDeviceCall D.SectorDev dev.old dev.new result }
 {
     let count = pages.len() as u32;
     write_images(dev, place, pages)?;
@@ -259,11 +238,9 @@ pub fn arm_grown<D: SectorDev>(
 ) -> Result<(), DevFault>
     requires rest { D.honest dev.old
         → IsAtRest (D.sectors dev.old / 4) old_end (D.candidate dev.old) (D.seen dev.old) }
-    requires some { 0 < length changed.now }
-    requires least { 4 ≤ old_end }
+    requires changed { IsCommit old_end changed.now }
     requires grown { old_end ≤ new_end }
     requires room { new_end + length changed.now ≤ D.sectors dev.old / 4 }
-    requires changed { are_in_order 1 old_end (bytes_of changed.now) ≡ true }
     requires new { are_in_order old_end new_end (bytes_of new.now) ≡ true }
 
     // Every image of every moment since the start settles to the old pages or to the new.
@@ -278,9 +255,7 @@ pub fn arm_grown<D: SectorDev>(
     ensures pages { D.honest dev.old
         → OnOk result ((n : ℕ) → 0 < n → n < new_end → page_at (D.seen dev.new) n
         ≡ overlaid (bytes_of new.now) (page_at (D.seen dev.old)) n) }
-    ensures honesty { D.honest dev.new ↔ D.honest dev.old }
-    ensures cause { HasCause (D.faults dev.old) (D.faults dev.new) result }
-    ensures size { D.sectors dev.new ≡ D.sectors dev.old }
+    ensures device { IsDeviceCall D.SectorDev dev.old dev.new result }
 {
     let count = changed.len() as u32;
     write_homes(dev, new)?;

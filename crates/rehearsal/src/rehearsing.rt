@@ -99,7 +99,7 @@ pub fn rehearse(
     let mut dev = dev;
     let mut endings = Vec::new(alloc);
     for stage in stages {
-        let (left, stopped) = staged(alloc, dev, stage)?;
+        let (left, stopped) = run_stage(alloc, dev, stage)?;
         dev = left;
         endings.push(stopped)?;
     }
@@ -107,7 +107,7 @@ pub fn rehearse(
 }
 
 // One of them.
-fn staged(alloc: Global, dev: MemDev, stage: &Stage) -> Result<(MemDev, Stopped), AllocError>
+fn run_stage(alloc: Global, dev: MemDev, stage: &Stage) -> Result<(MemDev, Stopped), AllocError>
     ensures leaves { (before : Members)
         → AllStandFor before (⟦<MemDev as SectorDev>⟧.sectors dev / 4)
         (⟦<MemDev as SectorDev>⟧.candidate dev)

@@ -185,11 +185,15 @@ fn make_calls<D: SectorDev>(alloc: Global, db: Db<D>, calls: &[Call], group: &[P
     };
     let stored = db.store_many(group);
     let (dev, closed) = db.close();
-    (dev, ended(stored, closed, replies))
+    (dev, session_ending(stored, closed, replies))
 }
 
 // How a session ended whose calls got these replies, and whose group was stored so.
-fn ended(stored: Result<usize, Fault>, closed: Result<(), Fault>, replies: Vec<Reply>) -> Ending
+fn session_ending(
+    stored: Result<usize, Fault>,
+    closed: Result<(), Fault>,
+    replies: Vec<Reply>,
+) -> Ending
     ensures rested { stored ≢ Err Fault.Broken
         → OnOk closed (result ≡ Ending.Rested replies stored) }
     ensures failed { stored ≢ Err Fault.Broken → IfErr closed (λ fault. fault ≢ Fault.Broken

@@ -176,9 +176,9 @@ module _ {T E F : Type 0} (r : Result T E) (file now_file : File) (before now : 
   by_sync P kept = by_change r file now_file before now (Syncs (is_ok r)) same
       answered P honest kept
 
-  pub sync_settles : OnOk r (IsStable ((history_of now_file).candidate now)
+  pub sync_is_stable : OnOk r (IsStable ((history_of now_file).candidate now)
       ((history_of now_file).seen now))
-  sync_settles = by_sync (λ image candidate. OnOk r (IsStable candidate image))
+  sync_is_stable = by_sync (λ image candidate. OnOk r (IsStable candidate image))
       (λ image candidate keeps. on_ok r (IsStable candidate image) keeps.stable)
       (not_ok r (IsStable may_stay shown))
 

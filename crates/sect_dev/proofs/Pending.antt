@@ -7,14 +7,14 @@ use Rattle.sect_dev.specs.declared.past.Event.TheVariants.{Wrote, Synced}
 use Rattle.sect_dev.specs.Device.{Image, with_sector}
 use Rattle.sect_dev.specs.History.{content_after, at_last_sync, pending_of, kept}
 
--- where all of these are unsettled writes, so are all of the older ones
-all_pending : (newer mid settled : List Event)
-    → pending_of (newer ++ mid ++ settled) ≡ length (newer ++ mid)
-    → pending_of (mid ++ settled) ≡ length mid
-all_pending [] mid settled all = all
-all_pending (Wrote n bytes ∷ newer) mid settled all =
-    all_pending newer mid settled (omega (arith, all))
-all_pending (Synced ∷ newer) mid settled all = absurd (omega (arith, all))
+-- where all of these are writes that may be lost, so are all of the older ones
+all_pending : (newer mid synced : List Event)
+    → pending_of (newer ++ mid ++ synced) ≡ length (newer ++ mid)
+    → pending_of (mid ++ synced) ≡ length mid
+all_pending [] mid synced all = all
+all_pending (Wrote n bytes ∷ newer) mid synced all =
+    all_pending newer mid synced (omega (arith, all))
+all_pending (Synced ∷ newer) mid synced all = absurd (omega (arith, all))
 
 -- the record of the last sync lacks what is pending, and nothing else
 pub last_and_pending : (events : List Event)

@@ -3,7 +3,7 @@ use Rattle.std.proofs.Common.{inl, ◌≡◌, ◌∙◌, ◌+◌, ◌-◌, ◌^�
 use Rattle.std.proofs.lemmas.Bool.{true≢false}
 use Rattle.sect_dev.specs.declared.failing.Failing.{Failing}
 use Rattle.sect_dev.specs.Device.{HasCause, Moment, Elapses}
-use Rattle.sect_dev.specs.Failing.{plan_of, own_faults, FollowsPlan}
+use Rattle.sect_dev.specs.Failing.{schedule_of, own_faults, FollowsSchedule}
 
 pub no_ok : {T E : Type 0} (r : Result T E) (P : Type 0) → IsErr r → OnOk r P
 no_ok (Ok x) P err = absurd (true≢false (sym err))
@@ -29,12 +29,12 @@ cause_beside inside before now (Ok x) cause = record {
 cause_beside inside before now (Err e) cause =
     record { later = omega (arith, cause.later); fault = omega (arith, cause.fault) }
 
-pub refused_by_plan : {D P T E : Type 0} (fails : P → ℕ → Bool) (faults : D → ℕ)
-    (old new : Failing D P) (r : Result T E) → true ≡ fails (plan_of old) 0 → IsErr r
+pub refused_by_schedule : {D P T E : Type 0} (fails : P → ℕ → Bool) (faults : D → ℕ)
+    (old new : Failing D P) (r : Result T E) → true ≡ fails (schedule_of old) 0 → IsErr r
     → own_faults new ≡ min (own_faults old + 1) (2 ^ 64 - 1)
-    → ((i : ℕ) → fails (plan_of new) i ≡ fails (plan_of old) (i + 1))
-    → FollowsPlan fails faults old new r
-refused_by_plan fails faults old new r fails_now err counted goes_on = record {
+    → ((i : ℕ) → fails (schedule_of new) i ≡ fails (schedule_of old) (i + 1))
+    → FollowsSchedule fails faults old new r
+refused_by_schedule fails faults old new r fails_now err counted goes_on = record {
   refused = λ _. err;
   passed = λ no. absurd (true≢false (fails_now ∙ no));
   counted = counted ∙ ap (λ b. cond b (min (own_faults old + 1) (2 ^ 64 - 1))

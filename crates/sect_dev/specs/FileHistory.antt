@@ -43,7 +43,7 @@ pub record KeepsWrite (n : ℕ) (bytes : List ℕ) (ok : Bool) (old new : Image)
   pub candidates : NoNewCandidate (with_run_candidates before n bytes) after
   pub keeps : NoNewCandidate after before
 
--- A sync that is Ok settles what is seen, and one that failed settles nothing.
+-- A sync that is Ok makes what is seen stable, and one that failed makes nothing stable.
 pub record KeepsSync (ok : Bool) (old new : Image) (before after : Candidates) : Type 0 where
   pub stable : IsTrue ok → IsStable after new
   pub seen : IsTrue ok → new ≡ old
@@ -56,8 +56,8 @@ KeepsChange (Writes at bytes ok) old new before after =
     → KeepsWrite n bytes ok old new before after
 KeepsChange (Syncs ok) old new before after = KeepsSync ok old new before after
 
--- The premise on a disk: it keeps each sector whole, returns what was written, and settles what it
--- synced, and nobody else writes the file.
+-- The premise on a disk: it keeps each sector whole, returns what was written, and makes what it
+-- synced stable, and nobody else writes the file.
 pub record IsKept (file_history : FileHistory) : Type 0 where
   pub whole : (t n : ℕ) → length (file_history.seen t n) ≡ 512
   pub may_stay : (t : ℕ) → IsImageOf (file_history.candidate t) (file_history.seen t)

@@ -6,7 +6,7 @@ pub mod History
 pub mod Kept
 pub mod Mem
 pub mod Moments
-pub mod Plan
+pub mod Schedule
 pub mod Reads
 pub mod Sector
 pub mod Serving

@@ -35,7 +35,8 @@ pub trait SectorDev {
     /// How many sectors there are.
     ghost sectors: { Self → ℕ };
 
-    /// The device keeps each sector whole, returns what was written and settles what it synced.
+    /// The device keeps each sector whole, returns what was written and makes stable what it
+    /// synced.
     ghost honest: { Self → Type 0 };
 
     /// What a read of each sector gives.
@@ -153,7 +154,7 @@ pub trait SectorDev {
         Ok(())
     }
 
-    /// At `Ok` a stop leaves what a read gives. At `Err` nothing is settled, and a read may give
+    /// At `Ok` a stop leaves what a read gives. At `Err` nothing is made stable, and a read may give
     /// another of the candidates from then on.
     fn sync(&mut self) -> Result<(), DevFault>
         ensures stable { honest self.old

@@ -1,9 +1,9 @@
 //! Devices that fail one call.
 ghost use Rattle.std.specs.Prelude.{◌≡◌, ◌+◌, ◌↔◌, ℕ, IsTrue};
-ghost use Rattle.sect_dev.specs.Plan.{fails_once};
+ghost use Rattle.sect_dev.specs.Schedule.{fails_once};
 
 use crate::SectorDev;
-use crate::failing::{Failing, Plan};
+use crate::failing::{Failing, Schedule};
 
 /// Fails one call alone, and doesn't pass it on.
 pub type FailOnce<D> = Failing<D, One>;
@@ -37,7 +37,7 @@ fn count_down(calls_before: &mut Option<u64>) -> bool
     }
 }
 
-impl Plan for One {
+impl Schedule for One {
     ghost use Rattle.std.specs.Prelude.{false};
 
     const LATE: bool = false;
@@ -53,7 +53,7 @@ impl Plan for One {
     }
 }
 
-impl Plan for OneLate {
+impl Schedule for OneLate {
     ghost use Rattle.std.specs.Prelude.{true};
 
     const LATE: bool = true;
@@ -70,27 +70,27 @@ impl Plan for OneLate {
 }
 
 impl<D: SectorDev> Failing<D, One> {
-    ghost use Rattle.sect_dev.specs.Failing.{inner_of, plan_of, all_faults};
+    ghost use Rattle.sect_dev.specs.Failing.{inner_of, schedule_of, all_faults};
 
     /// A device that fails call `k`, counted from 0.
     pub fn new(dev: D, k: u64) -> FailOnce<D>
         ensures inner { inner_of result ≡ dev }
         ensures faults { all_faults D.faults result ≡ D.faults dev }
-        ensures fails { (i : ℕ) → IsTrue (⟦<One as Plan>⟧.fails (plan_of result) i) ↔ (i ≡ k) }
+        ensures fails { (i : ℕ) → IsTrue (⟦<One as Schedule>⟧.fails (schedule_of result) i) ↔ (i ≡ k) }
     {
-        Failing::with_plan(dev, One(Some(k)))
+        Failing::with_schedule(dev, One(Some(k)))
     }
 }
 
 impl<D: SectorDev> Failing<D, OneLate> {
-    ghost use Rattle.sect_dev.specs.Failing.{inner_of, plan_of, all_faults};
+    ghost use Rattle.sect_dev.specs.Failing.{inner_of, schedule_of, all_faults};
 
     /// A device that fails call `k`, counted from 0.
     pub fn new(dev: D, k: u64) -> FailLate<D>
         ensures inner { inner_of result ≡ dev }
         ensures faults { all_faults D.faults result ≡ D.faults dev }
-        ensures fails { (i : ℕ) → IsTrue (⟦<OneLate as Plan>⟧.fails (plan_of result) i) ↔ (i ≡ k) }
+        ensures fails { (i : ℕ) → IsTrue (⟦<OneLate as Schedule>⟧.fails (schedule_of result) i) ↔ (i ≡ k) }
     {
-        Failing::with_plan(dev, OneLate(Some(k)))
+        Failing::with_schedule(dev, OneLate(Some(k)))
     }
 }

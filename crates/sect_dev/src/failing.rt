@@ -5,7 +5,7 @@ ghost use Rattle.sect_dev.specs.Device.{with_sector, IsImageOf, NoNewCandidate, 
 use crate::{DevFault, SectorDev};
 
 /// Which of the calls to come fail. The next call is call 0.
-pub trait Plan: Drop {
+pub trait Schedule: Drop {
     /// Whether a read or a write that fails is passed on before.
     const LATE: bool;
 
@@ -13,7 +13,7 @@ pub trait Plan: Drop {
 
     ghost fails: { Self → ℕ → Bool };
 
-    /// Up to which moment the device inside may go where this is the moment, or 0 where the plan
+    /// Up to which moment the device inside may go where this is the moment, or 0 where the schedule
     /// doesn't end.
     ghost until: { Self → ℕ → ℕ };
 
@@ -26,12 +26,12 @@ pub trait Plan: Drop {
             → until self.new now ≤ until self.old before };
 }
 
-/// A device that fails calls of read, write and sync by a plan, and counts each as a fault. A run is
-/// a call for each of its sectors. `Fuse`, `FailOnce` and `FailLate` are the plans that there are.
+/// A device that fails calls of read, write and sync by a schedule, and counts each as a fault. A run is
+/// a call for each of its sectors. `Fuse`, `FailOnce` and `FailLate` are the schedules that there are.
 #[derive(Drop)]
-pub struct Failing<D: SectorDev, P: Plan> {
+pub struct Failing<D: SectorDev, P: Schedule> {
     inner: D,
-    plan: P,
+    schedule: P,
     refused: u64,
 }
 
@@ -45,17 +45,17 @@ fn refuse(refused: &mut u64) -> Result<(), DevFault>
     Err(DevFault)
 }
 
-impl<D: SectorDev, P: Plan> Failing<D, P> {
-    ghost use Rattle.sect_dev.specs.Failing.{inner_of, plan_of, own_faults, all_faults};
+impl<D: SectorDev, P: Schedule> Failing<D, P> {
+    ghost use Rattle.sect_dev.specs.Failing.{inner_of, schedule_of, own_faults, all_faults};
 
-    pub(crate) fn with_plan(inner: D, plan: P) -> Failing<D, P>
+    pub(crate) fn with_schedule(inner: D, schedule: P) -> Failing<D, P>
         ensures inner { inner_of result ≡ inner }
-        ensures plan { plan_of result ≡ plan }
+        ensures schedule { schedule_of result ≡ schedule }
         ensures faults { all_faults D.faults result ≡ D.faults inner }
     {
         Failing {
             inner,
-            plan,
+            schedule,
             refused: 0,
         }
     }
@@ -73,15 +73,15 @@ impl<D: SectorDev, P: Plan> Failing<D, P> {
     {
         let Failing {
             inner,
-            plan: _,
+            schedule: _,
             refused: _,
         } = self;
         inner
     }
 }
 
-impl<D: SectorDev, P: Plan> SectorDev for Failing<D, P> {
-    ghost use Rattle.sect_dev.specs.Failing.{inner_of, plan_of, moment_of, all_faults, FollowsPlan};
+impl<D: SectorDev, P: Schedule> SectorDev for Failing<D, P> {
+    ghost use Rattle.sect_dev.specs.Failing.{inner_of, schedule_of, moment_of, all_faults, FollowsSchedule};
 
     ghost sectors = { λ f. D.sectors f.inner };
 
@@ -130,14 +130,14 @@ impl<D: SectorDev, P: Plan> SectorDev for Failing<D, P> {
         ensures quiet { OnOk result (all_faults D.faults self.new ≡ all_faults D.faults self.old) }
         ensures size { D.sectors (inner_of self.new) ≡ D.sectors (inner_of self.old) }
 
-        ensures plan { FollowsPlan P.fails D.faults self.old self.new result }
-        ensures kept { IsTrue (P.fails (plan_of self.old) 0) → P.LATE ≡ false
+        ensures schedule { FollowsSchedule P.fails D.faults self.old self.new result }
+        ensures kept { IsTrue (P.fails (schedule_of self.old) 0) → P.LATE ≡ false
             → inner_of self.new ≡ inner_of self.old }
-        ensures passed_on { D.honest (inner_of self.old) → IsTrue (P.fails (plan_of self.old) 0)
+        ensures passed_on { D.honest (inner_of self.old) → IsTrue (P.fails (schedule_of self.old) 0)
             → P.LATE ≡ true → (out.new ≡ D.seen (inner_of self.old) n)
             ⊎ MoreFaults (D.faults (inner_of self.old)) (D.faults (inner_of self.new)) }
     {
-        let fails = self.plan.count();
+        let fails = self.schedule.count();
         if fails && !P::LATE {
             return refuse(&mut self.refused);
         }
@@ -172,15 +172,15 @@ impl<D: SectorDev, P: Plan> SectorDev for Failing<D, P> {
         ensures quiet { OnOk result (all_faults D.faults self.new ≡ all_faults D.faults self.old) }
         ensures size { D.sectors (inner_of self.new) ≡ D.sectors (inner_of self.old) }
 
-        ensures plan { FollowsPlan P.fails D.faults self.old self.new result }
-        ensures kept { IsTrue (P.fails (plan_of self.old) 0) → P.LATE ≡ false
+        ensures schedule { FollowsSchedule P.fails D.faults self.old self.new result }
+        ensures kept { IsTrue (P.fails (schedule_of self.old) 0) → P.LATE ≡ false
             → inner_of self.new ≡ inner_of self.old }
-        ensures passed_on { D.honest (inner_of self.old) → IsTrue (P.fails (plan_of self.old) 0)
+        ensures passed_on { D.honest (inner_of self.old) → IsTrue (P.fails (schedule_of self.old) 0)
             → P.LATE ≡ true → (D.seen (inner_of self.new)
             ≡ with_sector (D.seen (inner_of self.old)) n from.now)
             ⊎ MoreFaults (D.faults (inner_of self.old)) (D.faults (inner_of self.new)) }
     {
-        let fails = self.plan.count();
+        let fails = self.schedule.count();
         if fails && !P::LATE {
             return refuse(&mut self.refused);
         }
@@ -213,11 +213,11 @@ impl<D: SectorDev, P: Plan> SectorDev for Failing<D, P> {
         ensures quiet { OnOk result (all_faults D.faults self.new ≡ all_faults D.faults self.old) }
         ensures size { D.sectors (inner_of self.new) ≡ D.sectors (inner_of self.old) }
 
-        ensures plan { FollowsPlan P.fails D.faults self.old self.new result }
-        ensures kept { IsTrue (P.fails (plan_of self.old) 0)
+        ensures schedule { FollowsSchedule P.fails D.faults self.old self.new result }
+        ensures kept { IsTrue (P.fails (schedule_of self.old) 0)
             → inner_of self.new ≡ inner_of self.old }
     {
-        if self.plan.count() {
+        if self.schedule.count() {
             return refuse(&mut self.refused);
         }
         self.inner.sync()

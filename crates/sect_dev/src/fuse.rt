@@ -2,7 +2,7 @@
 ghost use Rattle.std.specs.Prelude.{◌≡◌, ◌+◌, ◌≤◌, ◌↔◌, ℕ, IsTrue};
 
 use crate::SectorDev;
-use crate::failing::{Failing, Plan};
+use crate::failing::{Failing, Schedule};
 
 /// Passes so many calls on, and fails every one after, which it doesn't pass on.
 pub type Fuse<D> = Failing<D, AllAfter>;
@@ -13,7 +13,7 @@ pub struct AllAfter {
     calls_left: u64,
 }
 
-impl Plan for AllAfter {
+impl Schedule for AllAfter {
     ghost use Rattle.std.specs.Prelude.{leb, false, ◌+◌};
 
     const LATE: bool = false;
@@ -34,15 +34,15 @@ impl Plan for AllAfter {
 }
 
 impl<D: SectorDev> Failing<D, AllAfter> {
-    ghost use Rattle.sect_dev.specs.Failing.{inner_of, plan_of, all_faults};
+    ghost use Rattle.sect_dev.specs.Failing.{inner_of, schedule_of, all_faults};
 
     /// A device that passes `k` calls on.
     pub fn new(dev: D, k: u64) -> Fuse<D>
         ensures inner { inner_of result ≡ dev }
         ensures faults { all_faults D.faults result ≡ D.faults dev }
-        ensures fails { (i : ℕ) → IsTrue (⟦<AllAfter as Plan>⟧.fails (plan_of result) i) ↔ (k ≤ i) }
-        ensures until { (now : ℕ) → ⟦<AllAfter as Plan>⟧.until (plan_of result) now ≡ now + k }
+        ensures fails { (i : ℕ) → IsTrue (⟦<AllAfter as Schedule>⟧.fails (schedule_of result) i) ↔ (k ≤ i) }
+        ensures until { (now : ℕ) → ⟦<AllAfter as Schedule>⟧.until (schedule_of result) now ≡ now + k }
     {
-        Failing::with_plan(dev, AllAfter { calls_left: k })
+        Failing::with_schedule(dev, AllAfter { calls_left: k })
     }
 }

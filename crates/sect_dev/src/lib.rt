@@ -13,7 +13,7 @@ mod served;
 
 pub use device::{DevFault, SectorDev};
 pub use fail_one::{FailLate, FailOnce};
-pub use failing::{Failing, Plan};
+pub use failing::{Failing, Schedule};
 pub use file_dev::{FileDev, FileFault};
 pub use fuse::Fuse;
 pub use laws::premise_can_be_met;

@@ -104,7 +104,7 @@ impl MemDev {
     {
         let mut after = self.at_last_sync(alloc)?;
         after.add_marked(self.unsynced.as_slice(), keep)?;
-        after.settle();
+        after.make_stable();
         Ok(after)
     }
 
@@ -155,7 +155,7 @@ impl MemDev {
     }
 
     // Syncs all writes.
-    fn settle(&mut self)
+    fn make_stable(&mut self)
         ensures record { history self.new ≡ Synced ∷ history self.old }
         ensures rest { IsSameButRecord self.old self.new }
     {
@@ -256,7 +256,7 @@ impl SectorDev for MemDev {
         ensures size { ⟦<MemDev as SectorDev>⟧.sectors self.new
             ≡ ⟦<MemDev as SectorDev>⟧.sectors self.old }
     {
-        self.settle();
+        self.make_stable();
         Ok(())
     }
 }

@@ -2,11 +2,11 @@
 
 ghost use Rattle.std.specs.Prelude.{◌≡◌, ◌<◌, ◌≤◌, ◌+◌, ◌/◌, ◌%◌, ℕ, List, IfOk, OnOk, OnErr, IsErrOf, length, slice_index};
 ghost use Rattle.page_model.specs.Space.{Space};
-ghost use Rattle.page_io.specs.Answers.{HasDeviceCause};
+ghost use Rattle.page_io.specs.Calls.{IsReadingCall, IsStagingCall};
 ghost use Rattle.page_io.specs.Store.{IsKnown};
-ghost use Rattle.page_io.specs.Views.{visible_page, body_at, StagesOnly, ReadsOnly, MayEnd};
+ghost use Rattle.page_io.specs.Views.{visible_page, body_at};
 ghost use Rattle.page_io.specs.declared.store.PageFault.TheVariants.{Damaged};
-ghost use Rattle.free_pages.specs.FreeList.{HasEnds};
+ghost use Rattle.free_pages.specs.FreeList.{KeepsEnds};
 ghost use Rattle.seg_table.specs.MetaPages.{model_meta};
 ghost use Rattle.seg_table.specs.Segments.{IsSpelledSegment};
 ghost use Rattle.seg_table.specs.Heads.{AreHeads, SaysSegment, HasEntry, CanSet, IsHeadSet, AddsSegment};
@@ -26,8 +26,7 @@ fn read_segment<S: PageStore>(
     page: &mut Page,
 ) -> Result<(), PageFault>
     requires { s < length meta.now.segments.items }
-    ensures reads { ReadsOnly S.PageStore store.old store.new }
-    ensures cause { HasDeviceCause (S.faults store.old) (S.faults store.new) result }
+    ensures reads { IsReadingCall S.PageStore store.old store.new result }
     ensures answer { IsHeadAnswer (S.state store.old) result }
     ensures known { OnOk result (IsKnown (S.state store.old)
         (slice_index meta.now.segments.items s)) }
@@ -57,8 +56,7 @@ pub fn head_of<S: PageStore>(
     page: &mut Page,
 ) -> Result<u32, PageFault>
     requires { bucket / 508 < length meta.now.segments.items }
-    ensures reads { ReadsOnly S.PageStore store.old store.new }
-    ensures cause { HasDeviceCause (S.faults store.old) (S.faults store.new) result }
+    ensures reads { IsReadingCall S.PageStore store.old store.new result }
     ensures answer { IsHeadAnswer (S.state store.old) result }
     ensures entry { S.honest store.old
         → IfOk result (λ head. HasEntry
@@ -97,16 +95,13 @@ pub fn set_head<S: PageStore>(
 ) -> Result<(), PageFault>
     requires few { bucket < 125000 }
     requires next { bucket / 508 ≤ length meta.old.segments.items }
-    ensures stages { StagesOnly S.PageStore store.old store.new }
+    ensures stages { IsStagingCall S.PageStore store.old store.new result }
     ensures few { length (S.state store.new).staged ≤ length (S.state store.old).staged + 1 }
-    ensures cause { HasDeviceCause (S.faults store.old) (S.faults store.new) result }
     ensures answer { IsSetAnswer S.reserved (S.state store.old) space.old result }
     ensures err { OnErr result (model_meta meta.new ≡ model_meta meta.old) }
     ensures err_state { OnErr result (S.state store.new ≡ S.state store.old) }
     ensures ok { OnOk result (AddsSegment (model_meta meta.old) (model_meta meta.new) bucket) }
-    ensures ends { HasEnds space.old → HasEnds space.new }
-    ensures may_end { MayEnd (S.state store.old) space.old.file_end
-        → OnOk result (MayEnd (S.state store.new) space.new.file_end) }
+    ensures keeps { KeepsEnds (S.state store.old) (S.state store.new) space.old space.new result }
 
     // On any file the head is set in the bucket's segment alone, and that is read or taken.
     ensures set { S.honest store.old

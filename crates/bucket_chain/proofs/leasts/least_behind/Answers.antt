@@ -26,7 +26,7 @@ returns-clause-ahead g c =
 
 pub returns-clause-walked : goal.returns-clause-walked
 returns-clause-walked g c honest =
-    let reads = c.in_ok-next.ensures.reads in
+    let reads = c.in_ok-next.ensures.reads.only in
     let read = head_after _ g.S.PageStore _ _ reads honest _ _ _ (c.in_ok-next.ensures.says honest)
     c.in_ok-next.ensures.known.0 c.if-next-eq0.false in
     rw (← c.ranked-last.ensures)
@@ -38,7 +38,7 @@ returns-clause-walked g c honest =
 
 pub returns-clause-exact : goal.returns-clause-exact
 returns-clause-exact g c honest chain is =
-    let reads = c.in_ok-next.ensures.reads in
+    let reads = c.in_ok-next.ensures.reads.only in
     let read = head_after _ g.S.PageStore _ _ reads honest _ _ _ (c.in_ok-next.ensures.says honest)
     c.in_ok-next.ensures.known.0 c.if-next-eq0.false in
     rw (← c.ranked-last.ensures)
@@ -48,7 +48,7 @@ returns-clause-exact g c honest chain is =
 
 pub returns-clause-whole : goal.returns-clause-whole
 returns-clause-whole g c honest chain is =
-    let reads = c.in_ok-next.ensures.reads in
+    let reads = c.in_ok-next.ensures.reads.only in
     let read = head_after _ g.S.PageStore _ _ reads honest _ _ _ (c.in_ok-next.ensures.says honest)
     c.in_ok-next.ensures.known.0 c.if-next-eq0.false in
     c.least_with_overflow.ensures.whole _ _ read c.least_in-best.ensures.least

@@ -65,7 +65,7 @@ returns-then-next-eq0-clause-exact g c head records read least honest chain is =
 pub loop-step-preserved : goal.loop-step-preserved
 loop-step-preserved g c = record {
   reads = reads_then g.S.PageStore _ _ _ (g.met.S.PageStore.counts_now c.loop-step.store)
-      c.loop-step.invariant.reads c.in_ok-next.ensures.reads;
+      c.loop-step.invariant.reads c.in_ok-next.ensures.reads.only;
   ranked = c.best_of-best.ensures.ranked;
   so_far = λ head records least.
       let so_far = c.loop-step.invariant.so_far head records least in

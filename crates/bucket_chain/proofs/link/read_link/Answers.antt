@@ -9,8 +9,9 @@ use Rattle.page_io.proofs.Views.{unknown_said}
 use Rattle.page_io.specs.BucketPages.{page_records}
 use Rattle.bucket_chain.specs.Links.{SaysLink}
 use Rattle.bucket_chain.proofs.LinkBodies.{says_link, is_link, not_other}
-use Rattle.bucket_chain.proofs.ReadPages.{known_some, if_some}
+use Rattle.bucket_chain.proofs.ReadPages.{if_some}
 use Rattle.bucket_chain.proofs.link.read_link.Goals as goal
+use Rattle.content_pages.proofs.StoreReads.{known_some}
 
 pub returns-in_err-read_bucket_page-clause-whole :
     goal.returns-in_err-read_bucket_page-clause-whole

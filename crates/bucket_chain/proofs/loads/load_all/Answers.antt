@@ -1,4 +1,4 @@
-use Rattle.std.proofs.Common.{◌≡◌, inl, inr, map, refl, sym, ap, subst, Err, arith}
+use Rattle.std.proofs.Common.{rules, ◌≡◌, inl, inr, map, refl, sym, ap, subst, Err, arith}
 use Rattle.std.proofs.lemmas.Result.{err_from_is_err_and}
 use Rattle.std.specs.List.{AllByRecursion}
 use Rattle.page_io.specs.Versions.{model_version}
@@ -65,7 +65,7 @@ loop-step-preserved g c = record {
       (went_well _ c.load_page.result c.in_ok-map_err.ensures.variant c.load_page.ensures)
       c.loop-step.invariant.small;
   reads = reads_then g.S.PageStore _ _ _ (g.met.S.PageStore.counts_now c.loop-step.store)
-      c.loop-step.invariant.reads c.in_ok-next.ensures.reads;
+      c.loop-step.invariant.reads c.in_ok-next.ensures.reads.only;
   loaded = λ honest.
       let link = link_before _ g.S.PageStore _ _ c.loop-step.invariant.reads honest _ _ _ _
       c.in_ok-next.ensures.says in
@@ -81,16 +81,22 @@ returns-clause-whole g c honest chain is damaged =
     (c.loop-step.invariant.loaded honest).walk (omega arith)
 
 pub returns-in_err-next-clause-reads : goal.returns-in_err-next-clause-reads
-returns-in_err-next-clause-reads g c =
-    reads_then g.S.PageStore _ _ _ (g.met.S.PageStore.counts_now c.loop-step.store)
-    c.loop-step.invariant.reads c.in_err-next.ensures.reads
+returns-in_err-next-clause-reads g c = record {
+  only = reads_then g.S.PageStore _ _ _ (g.met.S.PageStore.counts_now c.loop-step.store)
+      c.loop-step.invariant.reads c.in_err-next.ensures.reads.only;
+  cause = search rules;
+}
 
 pub returns-in_err-map_err-clause-reads : goal.returns-in_err-map_err-clause-reads
-returns-in_err-map_err-clause-reads g c =
-    reads_then g.S.PageStore _ _ _ (g.met.S.PageStore.counts_now c.loop-step.store)
-    c.loop-step.invariant.reads c.in_ok-next.ensures.reads
+returns-in_err-map_err-clause-reads g c = record {
+  only = reads_then g.S.PageStore _ _ _ (g.met.S.PageStore.counts_now c.loop-step.store)
+      c.loop-step.invariant.reads c.in_ok-next.ensures.reads.only;
+  cause = search rules;
+}
 
 pub returns-then-next-eq0-clause-reads : goal.returns-then-next-eq0-clause-reads
-returns-then-next-eq0-clause-reads g c =
-    reads_then g.S.PageStore _ _ _ (g.met.S.PageStore.counts_now c.loop-step.store)
-    c.loop-step.invariant.reads c.in_ok-next.ensures.reads
+returns-then-next-eq0-clause-reads g c = record {
+  only = reads_then g.S.PageStore _ _ _ (g.met.S.PageStore.counts_now c.loop-step.store)
+      c.loop-step.invariant.reads c.in_ok-next.ensures.reads.only;
+  cause = search rules;
+}

@@ -74,7 +74,7 @@ pub loop-step-preserved : goal.loop-step-preserved
 loop-step-preserved g c = record {
   kinds = inr refl;
   reads = reads_then g.S.PageStore _ _ _ (g.met.S.PageStore.counts_now c.loop-step.store)
-      c.loop-step.invariant.reads c.in_ok-next.ensures.reads;
+      c.loop-step.invariant.reads c.in_ok-next.ensures.reads.only;
   walked = λ honest.
       let link = link_before _ g.S.PageStore _ _ c.loop-step.invariant.reads honest _ _ _ _
       c.in_ok-next.ensures.says in

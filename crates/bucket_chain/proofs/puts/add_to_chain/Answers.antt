@@ -122,13 +122,14 @@ returns-in_err-spot g c =
     let result = c.from_residual in
     let exit = exit_is result.result c.in_err-spot.field-0.0 result.ensures.1 in
     record {
-      stages = told.reads.stages_only;
-      few = few_same _ _ 2 told.reads.same;
-      cause = cause_first _ _ exit _ _ told.cause;
+      stages = record {
+        only = told.reads.only.stages_only;
+        cause = cause_first _ _ exit _ _ told.reads.cause;
+      };
+      few = few_same _ _ 2 told.reads.only.same;
       answer = walk_puts _ _ refl _ _ exit _ _ _ told.answer;
       added = λ honest. IfOk-from_err _ _ result.ensures.0;
-      ends = λ e. e;
-      may_end = λ may. IfOk-from_err _ _ result.ensures.0;
+      keeps = record { ends = λ e. e; may_end = λ may. IfOk-from_err _ _ result.ensures.0 };
       exact = λ honest chain s placed e is held none. IfOk-from_err _ _ result.ensures.0;
       whole = λ honest chain s placed damaged.
           told.whole honest chain (subst
@@ -153,7 +154,7 @@ here_says : (g : Over) (c : goal.After-stage_page g)
 here_says g c honest found =
     let bytes = c.add_record.new.page.bytes in
     let page = c.in_ok-spot.spot.page in
-    let reads = c.find_spot.ensures.reads in
+    let reads = c.find_spot.ensures.reads.only in
     let h1 = reads.stages_only.honesty.1 honest in
     let number = own_same bytes ∙ c.add_record.ensures.header.own
     ∙ (header_of _ _ _ _ _ _ found.link).own in
@@ -168,13 +169,15 @@ here_says g c honest found =
 pub returns-then-spot : goal.returns-then-spot
 returns-then-spot g c =
     let st = g.S.PageStore in
-    let one = c.in_ok-spot.ensures.reads in
+    let one = c.in_ok-spot.ensures.reads.only in
     let told = c.stage_page.ensures in
     record {
-      stages = stages_then st _ _ _ (g.met.S.PageStore.counts_now c.find_spot.new.store)
-          one.stages_only told.stages;
+      stages = record {
+        only = stages_then st _ _ _ (g.met.S.PageStore.counts_now c.find_spot.new.store)
+            one.stages_only told.stages;
+        cause = cause_stage_last _ _ _ _ _ _ _ one.stages_only.later told.faults told.answer;
+      };
       few = few_more _ _ (few_then _ _ _ 1 one.same told.few);
-      cause = cause_stage_last _ _ _ _ _ _ _ one.stages_only.later told.faults told.answer;
       answer = stage_puts_last _ _ _ _ _ (ap (λ (s : StoreState). s.usable) one.same) _ _
           (few_same _ _ 1 one.same) told.answer;
       added = λ honest.
@@ -183,20 +186,22 @@ returns-then-spot g c =
           added_to _ _ _ (MayEnd (st.state c.args.store.now) c.args.space.now.file_end)
           c.args.space.now c.args.space.now c.args.head (as_record c.args.added) _ _
           found c.if-spot.true refl said);
-      ends = λ e. e;
-      may_end = λ may.
-          let own = (header_of _ _ _ _ _ _ c.in_ok-spot.ensures.page.link).own in
-          let below = known_below _ _ _ may c.in_ok-spot.ensures.known.1 in
-          let still = subst (λ (st : StoreState). MayEnd st c.args.space.now.file_end)
-          (sym c.find_spot.ensures.reads.same) may in
-          if_ok c.stage_page.result (c.stage_page.ensures.may_end c.args.space.now.file_end
-          (omega (
-            arith,
-            own_same c.add_record.new.page.bytes,
-            c.add_record.ensures.header.own,
-            own,
-            below,
-          )) still);
+      keeps = record {
+        ends = λ e. e;
+        may_end = λ may.
+            let own = (header_of _ _ _ _ _ _ c.in_ok-spot.ensures.page.link).own in
+            let below = known_below _ _ _ may c.in_ok-spot.ensures.known.1 in
+            let still = subst (λ (st : StoreState). MayEnd st c.args.space.now.file_end)
+            (sym c.find_spot.ensures.reads.only.same) may in
+            if_ok c.stage_page.result (c.stage_page.ensures.may_end c.args.space.now.file_end
+            (omega (
+              arith,
+              own_same c.add_record.new.page.bytes,
+              c.add_record.ensures.header.own,
+              own,
+              below,
+            )) still);
+      };
       exact = λ honest chain s placed e is held none.
           let found = c.in_ok-spot.ensures.found honest in
           on_ok c.stage_page.result (here_says g c honest found) (λ said.
@@ -217,21 +222,23 @@ returns-in_err-taken g c =
     let told = c.in_err-taken.ensures in
     let result = c.from_residual-in_err-taken in
     let exit = exit_is result.result c.in_err-taken.field-0.0 result.ensures.1 in
-    let one = c.in_ok-spot.ensures.reads in
+    let one = c.in_ok-spot.ensures.reads.only in
     record {
-      stages = stages_then st _ _ _ (g.met.S.PageStore.counts_now c.find_spot.new.store)
-          one.stages_only told.reads.stages_only;
-      few = few_then _ _ _ 2 one.same (few_same _ _ 2 told.reads.same);
-      cause = cause_then _ _ exit _ _ _ one.stages_only.later told.cause;
+      stages = record {
+        only = stages_then st _ _ _ (g.met.S.PageStore.counts_now c.find_spot.new.store)
+            one.stages_only told.reads.only.stages_only;
+        cause = cause_then _ _ exit _ _ _ one.stages_only.later told.reads.cause;
+      };
+      few = few_then _ _ _ 2 one.same (few_same _ _ 2 told.reads.only.same);
       answer = take_puts _ _ (ap (λ (s : StoreState). s.usable) one.same) _ _ exit _ _
           (ap (λ (s : StoreState). s.capacity) one.same) told.answer;
       added = λ honest. IfOk-from_err _ _ result.ensures.0;
-      ends = told.ends;
-      may_end = λ may. IfOk-from_err _ _ result.ensures.0;
+      keeps = record { ends = told.ends; may_end = λ may. IfOk-from_err _ _ result.ensures.0 };
       exact = λ honest chain s placed e is held none. IfOk-from_err _ _ result.ensures.0;
       whole = λ honest chain s placed damaged.
-          let same = same_said g.S.PageStore _ _ c.find_spot.ensures.reads honest in
-          c.in_err-taken.ensures.whole (c.find_spot.ensures.reads.stages_only.honesty.1 honest) s
+          let same = same_said g.S.PageStore _ _ c.find_spot.ensures.reads.only honest in
+          c.in_err-taken.ensures.whole (c.find_spot.ensures.reads.only.stages_only.honesty.1
+          honest) s
           (subst (λ (at : ℕ → Body). IsFreeList at c.args.space.now s) (sym same)
           placed.free_is) (apart_alone (pages_in chain) s placed.apart)
           (came _ _ exit Damaged damaged);
@@ -249,20 +256,24 @@ returns-in_err-stage_page g c =
     let told = c.in_err-stage_page.ensures in
     let result = c.from_residual-in_err-stage_page in
     let exit = exit_is result.result c.in_err-stage_page.field-0.0 result.ensures.1 in
-    let one = c.in_ok-spot.ensures.reads in
-    let two = c.in_ok-taken.ensures.reads in
+    let one = c.in_ok-spot.ensures.reads.only in
+    let two = c.in_ok-taken.ensures.reads.only in
     let both = reads_then st _ _ _ (g.met.S.PageStore.counts_now c.find_spot.new.store) one two in
     let done = c.stage_page-2.ensures in
     record {
-      stages = stages_then st _ _ _ (g.met.S.PageStore.counts_now c.take.new.store)
-          both.stages_only told.stages;
+      stages = record {
+        only = stages_then st _ _ _ (g.met.S.PageStore.counts_now c.take.new.store)
+            both.stages_only told.stages;
+        cause = cause_stage _ _ exit _ _ _ _ _ _ both.stages_only.later told.faults told.answer;
+      };
       few = few_more _ _ (few_then _ _ _ 1 both.same told.few);
-      cause = cause_stage _ _ exit _ _ _ _ _ _ both.stages_only.later told.faults told.answer;
       answer = stage_puts _ _ (ap (λ (s : StoreState). s.usable) both.same) _ _ exit _ _ _ _
           (few_same _ _ 1 both.same) told.answer;
       added = λ honest. IfOk-from_err _ _ result.ensures.0;
-      ends = c.in_ok-taken.ensures.ends;
-      may_end = λ may. IfOk-from_err _ _ result.ensures.0;
+      keeps = record {
+        ends = c.in_ok-taken.ensures.ends;
+        may_end = λ may. IfOk-from_err _ _ result.ensures.0;
+      };
       exact = λ honest chain s placed e is held none. IfOk-from_err _ _ result.ensures.0;
       whole = λ honest chain s placed damaged.
           absurd (stage_not_damaged _ _ _ _ told.answer (came _ _ exit Damaged damaged));
@@ -288,7 +299,7 @@ both_say g c honest found =
     let last = c.add_record-2.new.page.bytes in
     let linked = c.set_next.new.page.bytes in
     let reads = reads_then st _ _ _ (g.met.S.PageStore.counts_now c.find_spot.new.store)
-    c.in_ok-spot.ensures.reads c.in_ok-taken.ensures.reads in
+    c.in_ok-spot.ensures.reads.only c.in_ok-taken.ensures.reads.only in
     let h2 = reads.stages_only.honesty.1 honest in
     let h3 = c.stage_page-2.ensures.stages.honesty.1 h2 in
     let new_own : model.own_number last ≡ new =
@@ -313,18 +324,20 @@ both_say g c honest found =
 pub returns : goal.returns
 returns g c =
     let st = g.S.PageStore in
-    let one = c.in_ok-spot.ensures.reads in
-    let two = c.in_ok-taken.ensures.reads in
+    let one = c.in_ok-spot.ensures.reads.only in
+    let two = c.in_ok-taken.ensures.reads.only in
     let both = reads_then st _ _ _ (g.met.S.PageStore.counts_now c.find_spot.new.store) one two in
     let staged = c.in_ok-stage_page.ensures in
     let told = c.stage_page-3.ensures in
     let so_far = stages_then st _ _ _ (g.met.S.PageStore.counts_now c.take.new.store)
     both.stages_only staged.stages in
     record {
-      stages = stages_then st _ _ _ (g.met.S.PageStore.counts_now c.stage_page-2.new.store)
-          so_far told.stages;
+      stages = record {
+        only = stages_then st _ _ _ (g.met.S.PageStore.counts_now c.stage_page-2.new.store)
+            so_far told.stages;
+        cause = cause_stage_last _ _ _ _ _ _ _ so_far.later told.faults told.answer;
+      };
       few = few_both _ _ _ (few_then _ _ _ 1 both.same staged.few) told.few;
-      cause = cause_stage_last _ _ _ _ _ _ _ so_far.later told.faults told.answer;
       answer = stage_puts_last _ _ _ _ _ (ap (λ (s : StoreState). s.usable) so_far.state) _ _
           (few_then _ _ _ 1 both.same staged.few) told.answer;
       added = λ honest.
@@ -340,30 +353,32 @@ returns g c =
           (says_nothing st c.args.store.now c.args.space.now.file_end
           (g.met.S.PageStore.ends c.args.store.now)
           (g.met.S.PageStore.in_range c.args.store.now).0) said);
-      ends = c.in_ok-taken.ensures.ends;
-      may_end = λ may.
-          let own = (header_of _ _ _ _ _ _ c.in_ok-spot.ensures.page.link).own in
-          let new_own : own_number c.add_record-2.new.page.bytes ≡ c.in_ok-taken.taken =
-          c.add_record-2.ensures.header.own ∙ sym (own_is c.empty-last.result.bytes)
-          ∙ ap (λ (b : Bucket). b.own) c.empty-last.ensures.says in
-          let found = subst (λ (st : StoreState). MayEnd st c.args.space.now.file_end)
-          (sym c.find_spot.ensures.reads.same) may in
-          let with_new = c.in_ok-taken.ensures.may_end found in
-          let end = c.take.new.space.file_end in
-          let staged = c.in_ok-stage_page.ensures.may_end_with end
-          (with_own _ _ _ _ _ c.take.ensures.reads.same
-          (sym (own_same c.add_record-2.new.page.bytes ∙ new_own)) with_new) in
-          let known = c.stage_page-2.ensures.known c.in_ok-spot.spot.page
-          (known_same _ _ _ (c.take.ensures.reads.same ∙ c.find_spot.ensures.reads.same)
-          c.in_ok-spot.ensures.known.1) in
-          if_ok c.stage_page-3.result (c.stage_page-3.ensures.may_end end
-          (omega (
-            arith,
-            own_same c.set_next.new.page.bytes,
-            c.set_next.ensures.own,
-            own,
-            known_below _ _ _ staged known,
-          )) staged);
+      keeps = record {
+        ends = c.in_ok-taken.ensures.ends;
+        may_end = λ may.
+            let own = (header_of _ _ _ _ _ _ c.in_ok-spot.ensures.page.link).own in
+            let new_own : own_number c.add_record-2.new.page.bytes ≡ c.in_ok-taken.taken =
+            c.add_record-2.ensures.header.own ∙ sym (own_is c.empty-last.result.bytes)
+            ∙ ap (λ (b : Bucket). b.own) c.empty-last.ensures.says in
+            let found = subst (λ (st : StoreState). MayEnd st c.args.space.now.file_end)
+            (sym c.find_spot.ensures.reads.only.same) may in
+            let with_new = c.in_ok-taken.ensures.may_end found in
+            let end = c.take.new.space.file_end in
+            let staged = c.in_ok-stage_page.ensures.may_end_with end
+            (with_own _ _ _ _ _ c.take.ensures.reads.only.same
+            (sym (own_same c.add_record-2.new.page.bytes ∙ new_own)) with_new) in
+            let known = c.stage_page-2.ensures.known c.in_ok-spot.spot.page
+            (known_same _ _ _ (c.take.ensures.reads.only.same ∙ c.find_spot.ensures.reads.only.same)
+            c.in_ok-spot.ensures.known.1) in
+            if_ok c.stage_page-3.result (c.stage_page-3.ensures.may_end end
+            (omega (
+              arith,
+              own_same c.set_next.new.page.bytes,
+              c.set_next.ensures.own,
+              own,
+              known_below _ _ _ staged known,
+            )) staged);
+      };
       exact = λ honest chain s placed e is held none.
           let at = body_at st c.args.store.now in
           let found = c.in_ok-spot.ensures.found honest in

@@ -22,9 +22,11 @@ returns-in_err-next g c =
     let exit = exit_is result.result c.in_err-next.field-0.0 result.ensures.1 in
     let reads = c.loop-step.invariant.reads in
     record {
-      reads = reads_then st _ _ _ (g.met.S.PageStore.counts_now c.loop-step.store) reads
-          told.reads;
-      cause = cause_then _ _ exit _ _ _ reads.stages_only.later told.cause;
+      reads = record {
+        only = reads_then st _ _ _ (g.met.S.PageStore.counts_now c.loop-step.store) reads
+            told.reads.only;
+        cause = cause_then _ _ exit _ _ _ reads.stages_only.later told.reads.cause;
+      };
       answer = walk_walks _ _ (ap (λ (s : StoreState). s.usable) reads.same) _ _ exit told.answer;
       known = IfOk-from_err _ _ result.ensures.0;
       page = IfOk-from_err _ _ result.ensures.0;
@@ -46,10 +48,9 @@ returns-then-has_room g c =
     let told = c.in_ok-next.ensures in
     let before = c.loop-step.invariant.reads in
     let counts = g.met.S.PageStore.counts_now c.loop-step.store in
-    let reads = reads_then st _ _ _ counts before told.reads in
+    let reads = reads_then st _ _ _ counts before told.reads.only in
     record {
-      reads = reads;
-      cause = cause_ok _ _ _ reads.stages_only.later;
+      reads = record { only = reads; cause = cause_ok _ _ _ reads.stages_only.later };
       answer = no_walk_refusal _ _;
       known = (told.known.0, known_same _ _ _ (sym before.same) told.known.1);
       page = record {
@@ -75,7 +76,7 @@ pub loop-step-preserved : goal.loop-step-preserved
 loop-step-preserved g c = record {
   kinds = inr refl;
   reads = reads_then g.S.PageStore _ _ _ (g.met.S.PageStore.counts_now c.loop-step.store)
-      c.loop-step.invariant.reads c.in_ok-next.ensures.reads;
+      c.loop-step.invariant.reads c.in_ok-next.ensures.reads.only;
   walked = λ honest.
       let link = link_before _ g.S.PageStore _ _ c.loop-step.invariant.reads honest _ _ _ _
       c.in_ok-next.ensures.says in
@@ -91,8 +92,7 @@ pub returns : goal.returns
 returns g c =
     let reads = c.loop-step.invariant.reads in
     record {
-      reads = reads;
-      cause = long_walk_cause _ _ reads.stages_only.later;
+      reads = record { only = reads; cause = long_walk_cause _ _ reads.stages_only.later };
       answer = long_walk _;
       known = tt;
       page = tt;

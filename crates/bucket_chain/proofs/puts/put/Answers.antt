@@ -59,7 +59,7 @@ returns-clause-put g c honest =
     let put = c.in_ok-first.ensures.put honest in
     let pair : Pair = (c.args.key.now, c.args.content.now) in
     on_ok c.add_to_chain-2.result
-    (c.add_to_chain-2.ensures.added (c.put_content.ensures.stages.honesty.1 honest)) (λ added.
+    (c.add_to_chain-2.ensures.added (c.put_content.ensures.stages.only.honesty.1 honest)) (λ added.
     far_put (body_at st c.args.store.now) (body_at st c.put_content.new.store)
     (body_at st c.add_to_chain-2.new.store)
     (MayEnd (st.state c.args.store.now) c.args.space.now.file_end)
@@ -71,7 +71,7 @@ returns-clause-put g c honest =
       far = Some (length c.args.content.now);
     }) put.0 (far g c) put.2 (λ some. record_there g c put.0 put.1 some)
     (far_some (model_version c.args.version) pair c.requires (far g c))
-    c.in_ok-first.ensures.may_end added)
+    c.in_ok-first.ensures.keeps.may_end added)
 
 pub returns-clause-exact : goal.returns-clause-exact
 returns-clause-exact g c honest chain s placed none =
@@ -89,7 +89,7 @@ returns-clause-exact g c honest chain s placed none =
     let is = record_there g c (next_pages count s) put.begins
     (omega (arith, length-next_pages count s, some)) in
     on_ok c.add_to_chain-2.result
-    (c.add_to_chain-2.ensures.exact (c.put_content.ensures.stages.honesty.1 honest) chain
+    (c.add_to_chain-2.ensures.exact (c.put_content.ensures.stages.only.honesty.1 honest) chain
     (after_takes count s)
     (still_placed version old mid c.args.space.now c.put_content.new.space c.args.head chain s pair
     count placed c.requires enough put.written put.left) e is
@@ -105,7 +105,7 @@ returns-clause-whole g c honest chain s placed none damaged =
     let count = pages_long (length c.args.content.now) in
     let put = c.in_ok-first.ensures.exact honest s placed.free_is
     (apart_alone (pages_in chain) s placed.apart) in
-    c.add_to_chain-2.ensures.whole (c.put_content.ensures.stages.honesty.1 honest) chain
+    c.add_to_chain-2.ensures.whole (c.put_content.ensures.stages.only.honesty.1 honest) chain
     (after_takes count s)
     (still_placed (model_version c.args.version) (body_at st c.args.store.now)
     (body_at st c.put_content.new.store) c.args.space.now c.put_content.new.space c.args.head
@@ -143,7 +143,7 @@ returns-clause-no_room g c honest chain s placed none =
     let pair : Pair = (c.args.key.now, c.args.content.now) in
     let count = pages_long (length c.args.content.now) in
     let version = model_version c.args.version in
-    let honest' = c.put_content.ensures.stages.honesty.1 honest in
+    let honest' = c.put_content.ensures.stages.only.honesty.1 honest in
     let put = c.in_ok-first.ensures.exact honest s placed.free_is
     (apart_alone (pages_in chain) s placed.apart) in
     let enough = far_count pair (far g c) in
@@ -167,5 +167,5 @@ returns-clause-no_room g c honest chain s placed none =
     (omega (
       arith,
       lacks.0,
-      ap (λ (x : StoreState). x.capacity) c.put_content.ensures.stages.state,
+      ap (λ (x : StoreState). x.capacity) c.put_content.ensures.stages.only.state,
     )) (lacks.1 refl))

@@ -34,9 +34,11 @@ returns-in_err-next g c =
     let exit = exit_is result.result c.in_err-next.field-0.0 result.ensures.1 in
     let reads = c.loop-step.invariant.reads in
     record {
-      reads = reads_then st _ _ _ (g.met.S.PageStore.counts_now c.loop-step.store) reads
-          told.reads;
-      cause = cause_then _ _ exit _ _ _ reads.stages_only.later told.cause;
+      reads = record {
+        only = reads_then st _ _ _ (g.met.S.PageStore.counts_now c.loop-step.store) reads
+            told.reads.only;
+        cause = cause_then _ _ exit _ _ _ reads.stages_only.later told.reads.cause;
+      };
       answer = walk_walks _ _ (ap (λ (s : StoreState). s.usable) reads.same) _ _ exit told.answer;
       held = IfOk-from_err _ _ result.ensures.0;
       walked = λ honest. IfOk-from_err _ _ result.ensures.0;
@@ -58,7 +60,7 @@ returns-in-Some g c =
     let told = c.in_ok-next.ensures in
     let before = c.loop-step.invariant.reads in
     let reads = reads_then st _ _ _ (g.met.S.PageStore.counts_now c.loop-step.store) before
-    told.reads in
+    told.reads.only in
     let bytes = c.read_link.new.page.bytes in
     let hit = λ (honest : st.honest c.args.store.now).
     let link = link_before _ st _ _ before honest _ _ _ _ told.says in
@@ -66,8 +68,7 @@ returns-in-Some g c =
     told.known.0 bytes c.in-Some.slot _
     told.link refl c.in-Some.ensures.found in
     record {
-      reads = reads;
-      cause = cause_ok _ _ _ reads.stages_only.later;
+      reads = record { only = reads; cause = cause_ok _ _ _ reads.stages_only.later };
       answer = no_walk_refusal _ _;
       held = record {
         some = told.known.0;
@@ -90,10 +91,9 @@ returns-then-next-eq0 g c =
     let told = c.in_ok-next.ensures in
     let before = c.loop-step.invariant.reads in
     let reads = reads_then st _ _ _ (g.met.S.PageStore.counts_now c.loop-step.store) before
-    told.reads in
+    told.reads.only in
     record {
-      reads = reads;
-      cause = cause_ok _ _ _ reads.stages_only.later;
+      reads = record { only = reads; cause = cause_ok _ _ _ reads.stages_only.later };
       answer = no_walk_refusal _ _;
       held = tt;
       walked = λ honest.
@@ -110,7 +110,7 @@ loop-step-preserved g c = record {
   kinds = inr refl;
   prior_kinds = c.loop-step.invariant.kinds;
   reads = reads_then g.S.PageStore _ _ _ (g.met.S.PageStore.counts_now c.loop-step.store)
-      c.loop-step.invariant.reads c.in_ok-next.ensures.reads;
+      c.loop-step.invariant.reads c.in_ok-next.ensures.reads.only;
   walked = λ honest.
       let link = link_before _ g.S.PageStore _ _ c.loop-step.invariant.reads honest _ _ _ _
       c.in_ok-next.ensures.says in
@@ -124,8 +124,7 @@ pub returns : goal.returns
 returns g c =
     let reads = c.loop-step.invariant.reads in
     record {
-      reads = reads;
-      cause = long_walk_cause _ _ reads.stages_only.later;
+      reads = record { only = reads; cause = long_walk_cause _ _ reads.stages_only.later };
       answer = long_walk _;
       held = tt;
       walked = λ honest. tt;

@@ -23,7 +23,7 @@ still : (g : Over) (c : goal.In_ok-give g) → g.S.PageStore.honest c.args.store
 still g c honest =
     elim c.match-hit.branch [
       | in-Some+in_ok-give_content w ↦ rw (w.store-is)
-          (w.in_ok-give_content.ensures.stages.honesty.1 honest)
+          (w.in_ok-give_content.ensures.stages.only.honesty.1 honest)
       | in_default w ↦ rw (w.store-is) honest
     ]
 

@@ -49,14 +49,17 @@ returns-in_err-read_link g c =
     let result = c.from_residual in
     let exit = exit_is result.result c.in_err-read_link.field-0.0 result.ensures.1 in
     record {
-      stages = told.reads.stages_only;
-      few = few_same _ _ 1 told.reads.same;
-      cause = cause_first _ _ exit _ _ told.cause;
+      stages = record {
+        only = told.reads.only.stages_only;
+        cause = cause_first _ _ exit _ _ told.reads.cause;
+      };
+      few = few_same _ _ 1 told.reads.only.same;
       answer = walk_removes _ _ refl _ _ exit _ _ told.answer;
       may_end = λ end may. IfOk-from_err _ _ result.ensures.0;
       says = λ honest was records link. IfOk-from_err _ _ result.ensures.0;
       relinked = λ honest. IfOk-from_err _ _ result.ensures.0;
-      others = λ honest m other. ap (λ (at : ℕ → Body). at m) (same_said st _ _ told.reads honest);
+      others = λ honest m other. ap (λ (at : ℕ → Body). at m) (same_said st _ _ told.reads.only
+          honest);
       whole = λ honest was records some link damaged. told.whole honest was records some link
           (came _ _ exit Damaged damaged);
     }
@@ -75,26 +78,31 @@ returns g c =
     let here : at' own ≡ body_of own bytes → at' c.args.n ≡ body_of c.args.n bytes =
     subst (λ (n : ℕ). at' n ≡ body_of n bytes) (number g c) in
     record {
-      stages = stages_then st _ _ _ (g.met.S.PageStore.counts_now c.read_link.new.store)
-          read.reads.stages_only told.stages;
-      few = few_then _ _ _ 1 read.reads.same told.few;
-      cause = cause_stage_last _ _ _ _ _ _ _ read.reads.stages_only.later told.faults told.answer;
-      answer = stage_removes_last _ _ _ _ _ (ap (λ (s : StoreState). s.usable) read.reads.same) _
-          (few_same _ _ 0 read.reads.same) told.answer;
+      stages = record {
+        only = stages_then st _ _ _ (g.met.S.PageStore.counts_now c.read_link.new.store)
+            read.reads.only.stages_only told.stages;
+        cause = cause_stage_last _ _ _ _ _ _ _ read.reads.only.stages_only.later told.faults
+            told.answer;
+      };
+      few = few_then _ _ _ 1 read.reads.only.same told.few;
+      answer = stage_removes_last _ _ _ _ _ (ap (λ (s : StoreState). s.usable)
+          read.reads.only.same) _
+          (few_same _ _ 0 read.reads.only.same) told.answer;
       may_end = λ end may.
           let below = known_below (st.state c.args.store.now) end c.args.n may read.known.1 in
           if_ok c.stage_page.result (told.may_end end (omega (arith, number g c, below))
-          (subst (λ (s : StoreState). MayEnd s end) (sym read.reads.same) may));
+          (subst (λ (s : StoreState). MayEnd s end) (sym read.reads.only.same) may));
       says = λ honest was records link.
           let same : page_records c.read_link.new.page.bytes ≡ records =
           (one_next _ _ _ _ _ _ _ records (read.says honest) link).1 in
-          on_ok c.stage_page.result (told.says (still_honest st _ _ read.reads honest)) (λ says.
+          on_ok c.stage_page.result (told.says (still_honest st _ _ read.reads.only honest)) (λ
+          says.
           subst (λ (ps : List Record). SaysLink
           (model_version c.args.version) at' c.args.n c.args.kind c.args.next ps) same
           (says_link _ at' bytes c.args.n c.args.kind c.args.next _
           (here says) c.requires linked));
       relinked = λ honest.
-          on_ok c.stage_page.result (told.says (still_honest st _ _ read.reads honest))
+          on_ok c.stage_page.result (told.says (still_honest st _ _ read.reads.only honest))
           (λ says. record {
             old_next = c.in_ok-read_link.field-0;
             records = page_records c.read_link.new.page.bytes;
@@ -103,8 +111,8 @@ returns g c =
                 c.requires linked;
           });
       others = λ honest m other.
-          told.others (still_honest st _ _ read.reads honest) m (λ e. other (e ∙ number g c))
-          ∙ ap (λ (at : ℕ → Body). at m) (same_said st _ _ read.reads honest);
+          told.others (still_honest st _ _ read.reads.only honest) m (λ e. other (e ∙ number g c))
+          ∙ ap (λ (at : ℕ → Body). at m) (same_said st _ _ read.reads.only honest);
       whole = λ honest was records some link damaged.
           absurd (last_not_damaged _ _ _ _ told.answer damaged);
     }

@@ -1,4 +1,4 @@
-use Rattle.std.proofs.Common.{◌≡◌, ◌≤◌, ℕ, Option, IfSome, length, refl, sym, ap, subst, arith}
+use Rattle.std.proofs.Common.{rules, ◌≡◌, ◌≤◌, ℕ, Option, IfSome, length, refl, sym, ap, subst, arith}
 use Rattle.std.proofs.lemmas.Bool.{false≢true}
 use Rattle.page_model.specs.Numbers.{IsNumber}
 use Rattle.page_model.specs.Pages.{Body, Other}
@@ -31,7 +31,7 @@ returns-in_default-clause-exact g c honest chain s placed once =
     record {
       was = (λ e. absurd (false≢true e), λ some. absurd (omega (arith, some, none.0)));
       left = unchanged version at (body_at st c.find_hit.new.store) c.args.space.now c.args.head
-          chain s key (same_said st _ _ c.in_ok-hit.ensures.reads honest) placed none.1 none.2;
+          chain s key (same_said st _ _ c.in_ok-hit.ensures.reads.only honest) placed none.1 none.2;
     }
 
 pub returns-in_err-emptied-clause-whole : goal.returns-in_err-emptied-clause-whole
@@ -39,7 +39,7 @@ returns-in_err-emptied-clause-whole g c honest chain s placed once damaged =
     let st = g.S.PageStore in
     let key = c.args.key.now in
     let version = model_version c.args.version in
-    let reads = c.in_ok-hit.ensures.reads in
+    let reads = c.in_ok-hit.ensures.reads.only in
     let same = same_said st _ _ reads honest in
     let result = c.from_residual-in_err-emptied in
     let exit = exit_is result.result c.in_err-emptied.field-0.0 result.ensures.1 in
@@ -61,7 +61,7 @@ returns-in_err-give_back-clause-few g c =
       arith,
       c.in_err-give_back.ensures.few,
       c.in_ok-emptied.ensures.few,
-      ap (λ (s : StoreState). length s.staged) c.in_ok-hit.ensures.reads.same,
+      ap (λ (s : StoreState). length s.staged) c.in_ok-hit.ensures.reads.only.same,
       told_few _ _ _ _ held.page held.has.0 held.content,
     )
 
@@ -74,13 +74,13 @@ returns-in_err-give_back-clause-answer g c =
     let result = c.from_residual-in_err-give_back in
     let exit = exit_is result.result c.in_err-give_back.field-0.0 result.ensures.1 in
     let both = stages_then st _ _ _ (g.met.S.PageStore.counts_now c.find_hit.new.store)
-    c.in_ok-hit.ensures.reads.stages_only c.in_ok-emptied.ensures.stages in
+    c.in_ok-hit.ensures.reads.only.stages_only c.in_ok-emptied.ensures.stages.only in
     relink_removes _ _ (ap (λ (s : StoreState). s.usable) both.state) _ _ exit _
     (pages_told c.in-Some.hit.content) _
     (omega (
       arith,
       c.in_ok-emptied.ensures.few,
-      ap (λ (s : StoreState). length s.staged) c.in_ok-hit.ensures.reads.same,
+      ap (λ (s : StoreState). length s.staged) c.in_ok-hit.ensures.reads.only.same,
       told_few _ _ _ _ held.page held.has.0 held.content,
     )) c.in_err-give_back.ensures.answer
 
@@ -93,7 +93,7 @@ returns-in_err-give_back-clause-whole g c honest chain s placed once damaged =
     let mid = body_at st c.unlink.new.store in
     let bytes = c.find_hit.new.page.bytes in
     let hit = c.in-Some.hit in
-    let reads = c.in_ok-hit.ensures.reads in
+    let reads = c.in_ok-hit.ensures.reads.only in
     let honest' = reads.stages_only.honesty.1 honest in
     let held = subst (λ (o : Option Hit). IfSome o (IsHeldHit version
     (st.state c.args.store.now) key bytes)) c.in-Some.is c.in_ok-hit.ensures.held in
@@ -110,7 +110,7 @@ returns-in_err-give_back-clause-whole g c honest chain s placed once damaged =
     (g.met.S.PageStore.in_order c.args.store.now) in
     let result = c.from_residual-in_err-give_back in
     let exit = exit_is result.result c.in_err-give_back.field-0.0 result.ensures.1 in
-    c.in_err-give_back.ensures.whole (c.in_ok-emptied.ensures.stages.honesty.1 honest') _ s
+    c.in_err-give_back.ensures.whole (c.in_ok-emptied.ensures.stages.only.honesty.1 honest') _ s
     (told_then version at c.args.space.now c.args.head chain s key bytes hit placed is held.content
     once mid emptied unlinked small)
     (free_then version at c.args.space.now c.args.head chain s key bytes hit placed is held.content
@@ -135,11 +135,11 @@ returns-in_err-give_back-clause-sparing g c honest chain s placed near =
     let none : pages_told c.in-Some.hit.content ≡ 0 =
     ap pages_told (near_told version at c.args.space.now c.args.head chain s key bytes
     c.in-Some.hit placed is held.content near) in
-    let few = ap (λ (s : StoreState). length s.staged) c.in_ok-hit.ensures.reads.same in
+    let few = ap (λ (s : StoreState). length s.staged) c.in_ok-hit.ensures.reads.only.same in
     let result = c.from_residual-in_err-give_back in
     let exit = exit_is result.result c.in_err-give_back.field-0.0 result.ensures.1 in
     let both = stages_then st _ _ _ (g.met.S.PageStore.counts_now c.find_hit.new.store)
-    c.in_ok-hit.ensures.reads.stages_only c.in_ok-emptied.ensures.stages in (
+    c.in_ok-hit.ensures.reads.only.stages_only c.in_ok-emptied.ensures.stages.only in (
       relink_removes _ _ (ap (λ (s : StoreState). s.usable) both.state) _ _ exit _
           (pages_told c.in-Some.hit.content) 1
           (omega (arith, c.in_ok-emptied.ensures.few, few, none))
@@ -156,20 +156,22 @@ returns-clause-few g c =
       arith,
       c.in_ok-give_back.ensures.few,
       c.in_ok-emptied.ensures.few,
-      ap (λ (s : StoreState). length s.staged) c.in_ok-hit.ensures.reads.same,
+      ap (λ (s : StoreState). length s.staged) c.in_ok-hit.ensures.reads.only.same,
       told_few _ _ _ _ held.page held.has.0 held.content,
     )
 
-pub returns-clause-may_end : goal.returns-clause-may_end
-returns-clause-may_end g c may =
-    let st = g.S.PageStore in
-    let end = c.args.space.now.file_end in
-    let held = subst (λ (o : Option Hit). IfSome o (IsHeldHit (model_version c.args.version)
-    (st.state c.args.store.now) c.args.key.now c.find_hit.new.page.bytes)) c.in-Some.is
-    c.in_ok-hit.ensures.held in
-    c.in_ok-give_back.ensures.may_end (known_below _ end _ may held.known)
-    (c.in_ok-emptied.ensures.may_end end
-    (subst (λ (x : StoreState). MayEnd x end) (sym c.in_ok-hit.ensures.reads.same) may))
+pub returns-clause-keeps : goal.returns-clause-keeps
+returns-clause-keeps g c = record {
+  ends = search rules;
+  may_end = λ may. let st = g.S.PageStore in
+      let end = c.args.space.now.file_end in
+      let held = subst (λ (o : Option Hit). IfSome o (IsHeldHit (model_version c.args.version)
+      (st.state c.args.store.now) c.args.key.now c.find_hit.new.page.bytes)) c.in-Some.is
+      c.in_ok-hit.ensures.held in
+      c.in_ok-give_back.ensures.may_end (known_below _ end _ may held.known)
+      (c.in_ok-emptied.ensures.may_end end
+      (subst (λ (x : StoreState). MayEnd x end) (sym c.in_ok-hit.ensures.reads.only.same) may));
+}
 
 pub returns-clause-taken_out : goal.returns-clause-taken_out
 returns-clause-taken_out g c honest was =
@@ -180,7 +182,7 @@ returns-clause-taken_out g c honest was =
     let mid = body_at st c.unlink.new.store in
     let bytes = c.find_hit.new.page.bytes in
     let hit = c.in-Some.hit in
-    let reads = c.in_ok-hit.ensures.reads in
+    let reads = c.in_ok-hit.ensures.reads.only in
     let honest' = reads.stages_only.honesty.1 honest in
     let held = subst (λ (o : Option Hit). IfSome o (IsHeldHit version
     (st.state c.args.store.now) key bytes)) c.in-Some.is c.in_ok-hit.ensures.held in
@@ -193,7 +195,7 @@ returns-clause-taken_out g c honest was =
     (λ is. c.in_ok-emptied.ensures.unlinked honest' c.args.head key is) is in
     taken_out version at mid (body_at st c.give_back.new.store) c.args.space.now
     c.give_back.new.space c.args.head key bytes hit emptied is held.content unlinked
-    (c.in_ok-give_back.ensures.given (c.in_ok-emptied.ensures.stages.honesty.1 honest')
+    (c.in_ok-give_back.ensures.given (c.in_ok-emptied.ensures.stages.only.honesty.1 honest')
     (emptied_no_content version at mid c.args.head hit.slot _ _ _ hit.page emptied
     is.walked.walk.last.number is.walked.walk.are_read unlinked))
 
@@ -206,7 +208,7 @@ returns-clause-exact g c honest chain s placed once =
     let mid = body_at st c.unlink.new.store in
     let bytes = c.find_hit.new.page.bytes in
     let hit = c.in-Some.hit in
-    let reads = c.in_ok-hit.ensures.reads in
+    let reads = c.in_ok-hit.ensures.reads.only in
     let honest' = reads.stages_only.honesty.1 honest in
     let held = subst (λ (o : Option Hit). IfSome o (IsHeldHit version
     (st.state c.args.store.now) key bytes)) c.in-Some.is c.in_ok-hit.ensures.held in
@@ -228,7 +230,7 @@ returns-clause-exact g c honest chain s placed once =
       left = removed_then version at c.args.space.now c.args.head chain s key bytes hit placed is
           held.content once mid emptied unlinked (body_at st c.give_back.new.store)
           c.give_back.new.space
-          (c.in_ok-give_back.ensures.exact (c.in_ok-emptied.ensures.stages.honesty.1 honest') _
+          (c.in_ok-give_back.ensures.exact (c.in_ok-emptied.ensures.stages.only.honesty.1 honest') _
           (emptied_no_content version at mid c.args.head hit.slot _ _ _ hit.page emptied
           is.walked.walk.last.number is.walked.walk.are_read unlinked)
           (told_then version at c.args.space.now c.args.head chain s key bytes hit placed is
@@ -254,7 +256,7 @@ returns-clause-sparing g c honest chain s placed near =
         arith,
         c.in_ok-give_back.ensures.few,
         c.in_ok-emptied.ensures.few,
-        ap (λ (s : StoreState). length s.staged) c.in_ok-hit.ensures.reads.same,
+        ap (λ (s : StoreState). length s.staged) c.in_ok-hit.ensures.reads.only.same,
         none,
       ),
     )

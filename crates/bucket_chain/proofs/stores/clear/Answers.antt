@@ -49,15 +49,16 @@ returns-in_err-first g c =
     let result = c.from_residual in
     let exit = exit_is result.result c.in_err-first.field-0.0 result.ensures.1 in
     record {
-      stages = told.reads.stages_only;
-      cause = cause_first _ _ exit _ _ told.cause;
+      stages = record {
+        only = told.reads.only.stages_only;
+        cause = cause_first _ _ exit _ _ told.reads.cause;
+      };
       answer = walk_stores _ _ refl _ _ exit told.answer;
       room = λ none. absurd (walk_has_room _ _ told.answer (came _ _ exit NoRoom none));
       walked = λ honest. IfOk-from_err _ _ result.ensures.0;
       emptied = λ honest. IfOk-from_err _ _ result.ensures.0;
       end = refl;
-      ends = λ e. e;
-      may_end = λ may. IfOk-from_err _ _ result.ensures.0;
+      keeps = record { ends = λ e. e; may_end = λ may. IfOk-from_err _ _ result.ensures.0 };
       exact = λ honest chain s placed. IfOk-from_err _ _ result.ensures.0;
       whole = λ honest chain s placed damaged.
           each_chain _ _ _ _ chain s placed (λ leaf rest is placed'.
@@ -72,22 +73,23 @@ returns-in_err-give_overflow g c =
     let told = c.in_err-give_overflow.ensures in
     let result = c.from_residual-in_err-give_overflow in
     let exit = exit_is result.result c.in_err-give_overflow.field-0.0 result.ensures.1 in
-    let one = c.in_ok-first.ensures.reads in
+    let one = c.in_ok-first.ensures.reads.only in
     record {
-      stages = stages_then st _ _ _ (g.met.S.PageStore.counts_now c.read_link.new.store)
-          one.stages_only told.stages;
-      cause = cause_then _ _ exit _ _ _ one.stages_only.later told.cause;
+      stages = record {
+        only = stages_then st _ _ _ (g.met.S.PageStore.counts_now c.read_link.new.store)
+            one.stages_only told.stages.only;
+        cause = cause_then _ _ exit _ _ _ one.stages_only.later told.stages.cause;
+      };
       answer = store_stores _ _ (ap (λ (s : StoreState). s.usable) one.same) _ _ exit told.answer;
       room = λ none. told.room (came _ _ exit NoRoom none);
       walked = λ honest. IfOk-from_err _ _ result.ensures.0;
       emptied = λ honest. IfOk-from_err _ _ result.ensures.0;
       end = told.end;
-      ends = told.ends;
-      may_end = λ may. IfOk-from_err _ _ result.ensures.0;
+      keeps = record { ends = told.ends; may_end = λ may. IfOk-from_err _ _ result.ensures.0 };
       exact = λ honest chain s placed. IfOk-from_err _ _ result.ensures.0;
       whole = λ honest chain s placed damaged.
-          let same = same_said g.S.PageStore _ _ c.in_ok-first.ensures.reads honest in
-          let h1 = c.in_ok-first.ensures.reads.stages_only.honesty.1 honest in
+          let same = same_said g.S.PageStore _ _ c.in_ok-first.ensures.reads.only honest in
+          let h1 = c.in_ok-first.ensures.reads.only.stages_only.honesty.1 honest in
           each_chain _ _ _ _ chain s placed (λ leaf rest is placed'.
           c.in_err-give_overflow.ensures.whole h1 _ leaf rest s
           (placed_same _ _ _ c.args.space.now _ (leaf ∷ rest) s same placed')
@@ -101,8 +103,8 @@ head_says : (g : Over) (c : goal.After-stage_page g) → g.S.PageStore.honest c.
     (body_at g.S.PageStore c.stage_page.new.store) c.args.head (HeadPage 0 []))
 head_says g c honest =
     let bytes = c.empty.result.bytes in
-    let h2 = c.in_ok-give_overflow.ensures.stages.honesty.1
-    (c.in_ok-first.ensures.reads.stages_only.honesty.1 honest) in
+    let h2 = c.in_ok-give_overflow.ensures.stages.only.honesty.1
+    (c.in_ok-first.ensures.reads.only.stages_only.honesty.1 honest) in
     let own : model.own_number bytes ≡ c.args.head =
     own_same bytes ∙ sym (own_is bytes) ∙ ap (λ (b : Bucket). b.own) c.empty.ensures.says in
     let link : IsLink (model_version c.args.version) bytes c.args.head 3 0 [] =
@@ -130,7 +132,7 @@ are_given : (g : Over) (c : goal.After-stage_page g) → g.S.PageStore.honest c.
     (body_at g.S.PageStore c.give_overflow.new.store) c.args.space.now c.give_overflow.new.space
     c.in_ok-first.first
 are_given g c honest =
-    let reads = c.in_ok-first.ensures.reads in
+    let reads = c.in_ok-first.ensures.reads.only in
     subst (λ (at : ℕ → Body). AreOverflowGiven at (body_at g.S.PageStore c.give_overflow.new.store)
     c.args.space.now c.give_overflow.new.space c.in_ok-first.first)
     (same_said g.S.PageStore _ _ reads honest)
@@ -140,15 +142,17 @@ are_given g c honest =
 pub returns : goal.returns
 returns g c =
     let st = g.S.PageStore in
-    let one = c.in_ok-first.ensures.reads in
+    let one = c.in_ok-first.ensures.reads.only in
     let given = c.in_ok-give_overflow.ensures in
     let told = c.stage_page.ensures in
     let so_far = stages_then st _ _ _ (g.met.S.PageStore.counts_now c.read_link.new.store)
-    one.stages_only given.stages in
+    one.stages_only given.stages.only in
     record {
-      stages = stages_then st _ _ _ (g.met.S.PageStore.counts_now c.give_overflow.new.store)
-          so_far told.stages;
-      cause = cause_stage_last _ _ _ _ _ _ _ so_far.later told.faults told.answer;
+      stages = record {
+        only = stages_then st _ _ _ (g.met.S.PageStore.counts_now c.give_overflow.new.store)
+            so_far told.stages;
+        cause = cause_stage_last _ _ _ _ _ _ _ so_far.later told.faults told.answer;
+      };
       answer = stage_stores_last _ 0 _ _ _
           (ap (λ (s : StoreState). s.usable) so_far.state) _ told.answer;
       room = λ none. last_has_room _ _ _ _ told.answer none;
@@ -159,24 +163,26 @@ returns g c =
           (c.in_ok-first.ensures.says honest) (are_given g c honest)
           said.says said.others);
       end = given.end;
-      ends = given.ends;
-      may_end = λ may.
-          let own : (bucket_of c.empty.result.bytes).own ≡ c.args.head =
-          ap (λ (b : Bucket). b.own) c.empty.ensures.says in
-          let read = subst (λ (x : StoreState). MayEnd x c.args.space.now.file_end)
-          (sym c.in_ok-first.ensures.reads.same) may in
-          let given = c.in_ok-give_overflow.ensures.may_end read in
-          let below = known_below _ _ _ may c.in_ok-first.ensures.known.1 in
-          if_ok c.stage_page.result (c.stage_page.ensures.may_end
-          c.give_overflow.new.space.file_end
-          (omega (
-            arith,
-            own_same c.empty.result.bytes,
-            own_is c.empty.result.bytes,
-            own,
-            below,
-            c.in_ok-give_overflow.ensures.end,
-          )) given);
+      keeps = record {
+        ends = given.ends;
+        may_end = λ may.
+            let own : (bucket_of c.empty.result.bytes).own ≡ c.args.head =
+            ap (λ (b : Bucket). b.own) c.empty.ensures.says in
+            let read = subst (λ (x : StoreState). MayEnd x c.args.space.now.file_end)
+            (sym c.in_ok-first.ensures.reads.only.same) may in
+            let given = c.in_ok-give_overflow.ensures.may_end read in
+            let below = known_below _ _ _ may c.in_ok-first.ensures.known.1 in
+            if_ok c.stage_page.result (c.stage_page.ensures.may_end
+            c.give_overflow.new.space.file_end
+            (omega (
+              arith,
+              own_same c.empty.result.bytes,
+              own_is c.empty.result.bytes,
+              own,
+              below,
+              c.in_ok-give_overflow.ensures.end,
+            )) given);
+      };
       exact = λ honest chain s placed. on_ok c.stage_page.result (head_says g c honest) (λ said.
           let at' = body_at st c.stage_page.new.store in
           each_chain _ _ _ _ chain s placed (λ leaf rest is placed'.

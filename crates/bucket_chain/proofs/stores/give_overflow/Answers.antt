@@ -33,7 +33,7 @@ loop-step-preserved g c =
     record {
       stages = stages_then st _ _ _ (g.met.S.PageStore.counts_now c.read_link.new.store)
           (stages_then st _ _ _ (g.met.S.PageStore.counts_now c.loop-step.store)
-          c.loop-step.invariant.stages c.in_ok-next.ensures.reads.stages_only)
+          c.loop-step.invariant.stages c.in_ok-next.ensures.reads.only.stages_only)
           c.in_ok-give.ensures.stages;
       ends = λ _. (
         λ none. absurd (c.if-at-eq0.false (sym (ap (λ (t : FreeState). t.head) ok) ∙ none)),
@@ -44,11 +44,11 @@ loop-step-preserved g c =
           let before = c.loop-step.invariant.may_end may in
           c.in_ok-give.ensures.may_end (known_below _ _ _ before c.in_ok-next.ensures.known.1)
           (subst (λ (x : StoreState). MayEnd x c.loop-step.space.file_end)
-          (sym c.in_ok-next.ensures.reads.same) before);
+          (sym c.in_ok-next.ensures.reads.only.same) before);
       given = λ honest.
           let h1 = c.loop-step.invariant.stages.honesty.1 honest in
-          let h2 = c.in_ok-next.ensures.reads.stages_only.honesty.1 h1 in
-          let same = same_said st _ _ c.in_ok-next.ensures.reads h1 in
+          let h2 = c.in_ok-next.ensures.reads.only.stages_only.honesty.1 h1 in
+          let same = same_said st _ _ c.in_ok-next.ensures.reads.only h1 in
           giving_goes_on _ (body_at st c.args.store.now) (body_at st c.loop-step.store)
           (body_at st c.give.new.store) c.args.space.now c.loop-step.space c.give.new.space
           c.args.first c.loop-step.at c.loop-step._step c.in_ok-next.next
@@ -65,8 +65,7 @@ pub returns : goal.returns
 returns g c =
     let so_far = c.loop-step.invariant in
     record {
-      stages = so_far.stages;
-      cause = long_walk_cause _ _ so_far.stages.later;
+      stages = record { only = so_far.stages; cause = long_walk_cause _ _ so_far.stages.later };
       answer = long_walk_stores _;
       room = λ none. long_walk_has_room none;
       ends = so_far.ends;
@@ -89,8 +88,7 @@ returns-then-at-eq0 g c =
     let st = g.S.PageStore in
     let so_far = c.loop-step.invariant in
     record {
-      stages = so_far.stages;
-      cause = cause_ok _ _ _ so_far.stages.later;
+      stages = record { only = so_far.stages; cause = cause_ok _ _ _ so_far.stages.later };
       answer = no_store_refusal _ _;
       room = λ none. no_fault _ _ none;
       ends = so_far.ends;
@@ -118,16 +116,18 @@ returns-in_err-next g c =
     let exit = exit_is result.result c.in_err-next.field-0.0 result.ensures.1 in
     let so_far = c.loop-step.invariant in
     record {
-      stages = stages_then st _ _ _ (g.met.S.PageStore.counts_now c.loop-step.store) so_far.stages
-          told.reads.stages_only;
-      cause = cause_then _ _ exit _ _ _ so_far.stages.later told.cause;
+      stages = record {
+        only = stages_then st _ _ _ (g.met.S.PageStore.counts_now c.loop-step.store) so_far.stages
+            told.reads.only.stages_only;
+        cause = cause_then _ _ exit _ _ _ so_far.stages.later told.reads.cause;
+      };
       answer = walk_stores _ _ (ap (λ (s : StoreState). s.usable) so_far.stages.state) _ _
           exit told.answer;
       room = λ none. walk_has_room _ _ told.answer (came _ _ exit NoRoom none);
       ends = so_far.ends;
       end = so_far.end;
       may_end = λ may. subst (λ (x : StoreState). MayEnd x c.loop-step.space.file_end)
-          (sym told.reads.same) (so_far.may_end may);
+          (sym told.reads.only.same) (so_far.may_end may);
       given = λ honest. IfOk-from_err _ _ result.ensures.0;
       whole = λ honest head leaf rest s placed from damaged.
           c.in_err-next.ensures.whole (c.loop-step.invariant.stages.honesty.1 honest) _ _
@@ -145,13 +145,15 @@ returns-in_err-give g c =
     let result = c.from_residual-in_err-give in
     let exit = exit_is result.result c.in_err-give.field-0.0 result.ensures.1 in
     let so_far = c.loop-step.invariant in
-    let read = c.in_ok-next.ensures.reads in
+    let read = c.in_ok-next.ensures.reads.only in
     let both = stages_then st _ _ _ (g.met.S.PageStore.counts_now c.loop-step.store) so_far.stages
     read.stages_only in
     record {
-      stages = stages_then st _ _ _ (g.met.S.PageStore.counts_now c.read_link.new.store)
-          both told.stages;
-      cause = cause_give _ _ exit _ _ _ both.later told.faults _ _ _ _ told.answer;
+      stages = record {
+        only = stages_then st _ _ _ (g.met.S.PageStore.counts_now c.read_link.new.store)
+            both told.stages;
+        cause = cause_give _ _ exit _ _ _ both.later told.faults _ _ _ _ told.answer;
+      };
       answer = give_stores _ _ (ap (λ (s : StoreState). s.usable) both.state) _ _ exit _
           _ _ told.answer;
       room = λ none. give_has_room _ _ _ _ _ told.answer (came _ _ exit NoRoom none);

@@ -38,9 +38,11 @@ returns-in_err-put_record g c =
     let exit = exit_is result.result c.in_err-put_record.field-0.0 result.ensures.1 in
     let so_far = c.loop-pair.invariant in
     record {
-      stages = stages_then st _ _ _ (g.met.S.PageStore.counts_now c.loop-pair.store)
-          so_far.stages told.stages;
-      cause = cause_then _ _ exit _ _ _ so_far.stages.later told.cause;
+      stages = record {
+        only = stages_then st _ _ _ (g.met.S.PageStore.counts_now c.loop-pair.store)
+            so_far.stages told.stages.only;
+        cause = cause_then _ _ exit _ _ _ so_far.stages.later told.stages.cause;
+      };
       answer = put_stores _ _ (ap (λ (s : StoreState). s.usable) so_far.stages.state) _ _ exit
           _ _ _ told.answer;
       room = λ none fails. absurd (omega (arith, c.loop-pair-test.true, ap length none));
@@ -60,8 +62,10 @@ returns-in_err-put_record g c =
             ap (λ (s : StoreState). s.capacity) so_far.stages.state,
           );
       added = λ honest. IfOk-from_err _ _ result.ensures.0;
-      ends = λ e. told.ends (so_far.ends e);
-      may_end = λ may. IfOk-from_err _ _ result.ensures.0;
+      keeps = record {
+        ends = λ e. told.keeps.ends (so_far.ends e);
+        may_end = λ may. IfOk-from_err _ _ result.ensures.0;
+      };
       exact = λ honest chain s placed entries same held empty once. IfOk-from_err _ _
           result.ensures.0;
       whole = λ honest chain s placed entries same held empty once damaged.
@@ -74,9 +78,9 @@ pub loop-pair-preserved : goal.loop-pair-preserved
 loop-pair-preserved g c =
     let st = g.S.PageStore in record {
       stages = stages_then st _ _ _ (g.met.S.PageStore.counts_now c.loop-pair.store)
-          c.loop-pair.invariant.stages c.in_ok-put_record.ensures.stages;
-      ends = λ e. c.in_ok-put_record.ensures.ends (c.loop-pair.invariant.ends e);
-      may_end = λ may. c.in_ok-put_record.ensures.may_end (c.loop-pair.invariant.may_end may);
+          c.loop-pair.invariant.stages c.in_ok-put_record.ensures.stages.only;
+      ends = λ e. c.in_ok-put_record.ensures.keeps.ends (c.loop-pair.invariant.ends e);
+      may_end = λ may. c.in_ok-put_record.ensures.keeps.may_end (c.loop-pair.invariant.may_end may);
       added = λ honest.
           let i = c.loop-pair.pair-index in
           let pairs = c.args.pairs.now in
@@ -124,8 +128,7 @@ returns g c =
     let all = take_all c.loop-pair.pair-index (map record_as c.args.pairs.now)
     (omega (arith, c.loop-pair-test.false, length-map c.args.pairs.now record_as)) in
     record {
-      stages = so_far.stages;
-      cause = cause_ok _ _ _ so_far.stages.later;
+      stages = record { only = so_far.stages; cause = cause_ok _ _ _ so_far.stages.later };
       answer = no_store_refusal _ _;
       room = λ empty none. no_fault _ _ none;
       no_room = λ honest none. absurd (no_fault _ _ none);
@@ -133,8 +136,7 @@ returns g c =
           subst (AreAdded (body_at st c.args.store.now) (body_at st c.loop-pair.store)
           (MayEnd (st.state c.args.store.now) c.args.space.now.file_end)
           c.args.space.now c.loop-pair.space (λ r. c.args.head)) all (so_far.added honest);
-      ends = so_far.ends;
-      may_end = so_far.may_end;
+      keeps = record { ends = so_far.ends; may_end = so_far.may_end };
       exact = λ honest chain s placed entries same held empty once.
           let put = so_far.put honest chain s placed entries same held empty once in
           let all : put.done ≡ entries = all_put _ _ _ _ _ _ _ entries c.loop-pair.pair-index put

@@ -15,7 +15,7 @@ pub loop-page-preserved : goal.loop-page-preserved
 loop-page-preserved g c =
     let st = g.S.PageStore in
     let so_far = c.loop-page.invariant in
-    let read = c.in_ok-next.ensures.reads in
+    let read = c.in_ok-next.ensures.reads.only in
     let ok = c.in_ok-give.ensures.ok in
     record {
       stages = stages_then st _ _ _ (g.met.S.PageStore.counts_now c.read_page.new.store)

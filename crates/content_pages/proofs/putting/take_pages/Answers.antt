@@ -28,7 +28,7 @@ loop-page-preserved g c =
     c.contains.ensures.value ∙ ap (list_any (λ m. m == c.in_ok-n.n)) c.deref.ensures.0 in
     record {
       reads = reads_then st _ _ _ (g.met.S.PageStore.counts_now c.loop-page.store) so_far.reads
-          told.reads;
+          told.reads.only;
       many = omega (arith, ap length grown, length_push pages n, so_far.many);
       numbered = subst (AllByRecursion (λ m. 1 ≤ m)) (sym grown)
           (AllByRecursion-append (λ m. 1 ≤ m) pages (n ∷ []) so_far.numbered (told.number, tt));

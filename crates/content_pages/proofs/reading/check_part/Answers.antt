@@ -1,4 +1,4 @@
-use Rattle.std.proofs.Common.{◌≡◌, take, drop, sym, ◌∙◌, ap, arith}
+use Rattle.std.proofs.Common.{sym, ◌∙◌, ap, arith}
 use Rattle.page_model.specs.PageBodies.{filled}
 use Rattle.page_model.specs.Pages.{ContentPage}
 use Rattle.page_io.specs.declared.store.PageFault.TheVariants.{Damaged}

@@ -20,7 +20,7 @@ loop-page-preserved g c =
     ) in
     record {
       reads = reads_then st _ _ _ (g.met.S.PageStore.counts_now c.loop-page.store) so_far.reads
-          told.reads;
+          told.reads.only;
       room = omega (
         arith,
         so_far.room,

@@ -1,4 +1,4 @@
-use Rattle.std.proofs.Common.{ℕ, drop, sym, ap, ◌∙◌, arith}
+use Rattle.std.proofs.Common.{rules, ℕ, drop, sym, ap, ◌∙◌, arith}
 use Rattle.page_model.specs.Pages.{ContentPage}
 use Rattle.page_model.specs.Reading.{body_of}
 use Rattle.page_io.specs.declared.store.PageFault.TheVariants.{Damaged}
@@ -17,10 +17,12 @@ returns-in_err-read-clause-whole g c honest next some is damaged =
     not_other next is.bytes (sym is.says ∙ other)
 
 pub returns-then-is_plain-clause-reads : goal.returns-then-is_plain-clause-reads
-returns-then-is_plain-clause-reads g c =
-    after_read g.S.PageStore c.args.store.now c.read.new.self
-    (g.met.S.PageStore.counts_now c.read.new.self) c.read.ensures.state c.read.ensures.honesty
-    c.read.ensures.cause.later c.read.ensures.kept
+returns-then-is_plain-clause-reads g c = record {
+  only = after_read g.S.PageStore c.args.store.now c.read.new.self
+      (g.met.S.PageStore.counts_now c.read.new.self) c.read.ensures.state c.read.ensures.honesty
+      c.read.ensures.cause.later c.read.ensures.kept;
+  cause = search rules;
+}
 
 pub returns-then-is_plain-clause-known : goal.returns-then-is_plain-clause-known
 returns-then-is_plain-clause-known g c =

@@ -12,33 +12,33 @@ returns c =
     (file_line (codes "stat")) (file_line (codes "verify")) (file_line (codes "upgrade"))
     resize_line backup_line (file_line (codes "salvage"))
     script_line rehearse_line faults_line
-    c.program.result c.added-command.result c.added-command-2.result c.added-command-3.result
-    c.added-command-4.result c.added-command-5.result c.added-command-6.result
-    c.added-command-7.result c.added-command-8.result c.added-command-9.result
-    c.added-command-10.result c.added-command-11.result c.added-command-12.result
-    c.added-command-13.result c.added-command-14.result c.added-command-15.result
-    c.added-command-16.result
+    c.program.result c.with_subcommand-command.result c.with_subcommand-command-2.result c.with_subcommand-command-3.result
+    c.with_subcommand-command-4.result c.with_subcommand-command-5.result c.with_subcommand-command-6.result
+    c.with_subcommand-command-7.result c.with_subcommand-command-8.result c.with_subcommand-command-9.result
+    c.with_subcommand-command-10.result c.with_subcommand-command-11.result c.with_subcommand-command-12.result
+    c.with_subcommand-command-13.result c.with_subcommand-command-14.result c.with_subcommand-command-15.result
+    c.with_subcommand-command-16.result
     c.create_command.result c.store_command.result c.insert_command.result c.fetch_command.result
     c.delete_command.result c.list_command.result c.dump_command.result c.load_command.result
     c.stat_command.result c.verify_command.result c.upgrade_command.result c.resize_command.result
     c.backup_command.result c.salvage_command.result c.script_command.result
     c.rehearse_command.result
-    (Ok c.faults_command.result) c.added.result
+    (Ok c.faults_command.result) c.with_subcommand.result
     c.program.ensures
-    c.create_command.ensures c.added-command.ensures
-    c.store_command.ensures c.added-command-2.ensures
-    c.insert_command.ensures c.added-command-3.ensures
-    c.fetch_command.ensures c.added-command-4.ensures
-    c.delete_command.ensures c.added-command-5.ensures
-    c.list_command.ensures c.added-command-6.ensures
-    c.dump_command.ensures c.added-command-7.ensures
-    c.load_command.ensures c.added-command-8.ensures
-    c.stat_command.ensures c.added-command-9.ensures
-    c.verify_command.ensures c.added-command-10.ensures
-    c.upgrade_command.ensures c.added-command-11.ensures
-    c.resize_command.ensures c.added-command-12.ensures
-    c.backup_command.ensures c.added-command-13.ensures
-    c.salvage_command.ensures c.added-command-14.ensures
-    c.script_command.ensures c.added-command-15.ensures
-    c.rehearse_command.ensures c.added-command-16.ensures
-    c.faults_command.ensures c.added.ensures
+    c.create_command.ensures c.with_subcommand-command.ensures
+    c.store_command.ensures c.with_subcommand-command-2.ensures
+    c.insert_command.ensures c.with_subcommand-command-3.ensures
+    c.fetch_command.ensures c.with_subcommand-command-4.ensures
+    c.delete_command.ensures c.with_subcommand-command-5.ensures
+    c.list_command.ensures c.with_subcommand-command-6.ensures
+    c.dump_command.ensures c.with_subcommand-command-7.ensures
+    c.load_command.ensures c.with_subcommand-command-8.ensures
+    c.stat_command.ensures c.with_subcommand-command-9.ensures
+    c.verify_command.ensures c.with_subcommand-command-10.ensures
+    c.upgrade_command.ensures c.with_subcommand-command-11.ensures
+    c.resize_command.ensures c.with_subcommand-command-12.ensures
+    c.backup_command.ensures c.with_subcommand-command-13.ensures
+    c.salvage_command.ensures c.with_subcommand-command-14.ensures
+    c.script_command.ensures c.with_subcommand-command-15.ensures
+    c.rehearse_command.ensures c.with_subcommand-command-16.ensures
+    c.faults_command.ensures c.with_subcommand.ensures

@@ -7,7 +7,7 @@ use Rattle.dbm_commands.proofs.pairs.delete.Goals as goal
 pub returns : goal.returns
 returns g c = record {
   reply = told_of_delete c.delete.result;
-  told = c.delete_told.ensures;
+  told = c.delete_outcome.ensures;
   step = λ honest h at. same_step refl (sym (delete_is_told c.delete.result _ refl))
       (c.delete.ensures.step honest h at);
   answered = delete_answered c.delete.result _ _ _ refl refl c.delete.ensures.absent

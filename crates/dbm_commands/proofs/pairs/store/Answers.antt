@@ -7,7 +7,7 @@ use Rattle.dbm_commands.proofs.pairs.store.Goals as goal
 pub returns : goal.returns
 returns g c = record {
   reply = told_of_store c.store.result;
-  told = c.store_told.ensures;
+  told = c.store_outcome.ensures;
   step = λ honest h at. same_step refl (sym (store_is_told c.store.result _ refl))
       (c.store.ensures.step honest h at);
   answered = store_answered c.store.result _ _ _ _ _ _ refl refl refl c.store.ensures.kept

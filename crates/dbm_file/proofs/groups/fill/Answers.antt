@@ -1,7 +1,7 @@
 use Rattle.std.proofs.Common.{◌≡◌, List, map, take, length, subst, sym, arith}
 use Rattle.dbm_file.specs.Pairs.{pair_of}
 use Rattle.dbm_model.specs.Pairs.{Pair}
-use Rattle.dbm_file.specs.Grouping.{StoresOne, StoresMany}
+use Rattle.dbm_file.specs.GroupsInMemory.{StoresOne, StoresMany}
 use Rattle.dbm_file.proofs.GroupSteps.{one_more_stored, no_more_stored}
 use Rattle.dbm_file.proofs.Runs.{seen_next, still_goes}
 use Rattle.dbm_file.proofs.groups.fill.Goals as goal

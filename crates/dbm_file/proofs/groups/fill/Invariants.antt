@@ -1,6 +1,6 @@
 use Rattle.std.proofs.Common.{map, take}
 use Rattle.dbm_file.specs.Answers.{IsSameDatabase}
-use Rattle.dbm_file.specs.Grouping.{StoresMany}
+use Rattle.dbm_file.specs.GroupsInMemory.{StoresMany}
 use Rattle.dbm_file.specs.Pairs.{pair_of}
 use Rattle.dbm_file.proofs.groups.fill.Given as goal
 

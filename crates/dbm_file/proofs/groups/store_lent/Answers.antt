@@ -6,7 +6,7 @@ use Rattle.page_io.specs.Views.{ReadsOnly}
 use Rattle.page_group.specs.Ending.{IsCommit}
 use Rattle.page_group.specs.Group.{pages_over}
 use Rattle.dbm_fault.specs.declared.fault.Fault.{Fault}
-use Rattle.dbm_file.specs.Grouping.{StoresMany, EndsLent}
+use Rattle.dbm_file.specs.GroupsInMemory.{StoresMany, EndsLent}
 use Rattle.dbm_file.specs.Database.{page_state, store_of}
 use Rattle.dbm_file.specs.Pairs.{pair_of}
 use Rattle.dbm_file.proofs.GroupLoans.{lent_none, lent_refused, lent_done, lent_broke}

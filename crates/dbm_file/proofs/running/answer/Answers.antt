@@ -57,13 +57,13 @@ returns-in-Next-clause-rooms g c later longest there =
 pub returns-in-Store-clause-step : goal.returns-in-Store-clause-step
 returns-in-Store-clause-step g c honest h at =
     same_step (same_store _ _ _ _ _ c.as_slice.ensures c.as_slice-in-Store.ensures
-    ∙ sym (ap call_of c.in-Store.is)) (sym (store_is_told _ _ c.store_told.ensures))
+    ∙ sym (ap call_of c.in-Store.is)) (sym (store_is_told _ _ c.reply_to_store.ensures))
     (c.store.ensures.step honest h at)
 
 pub returns-in-Store-clause-answered : goal.returns-in-Store-clause-answered
 returns-in-Store-clause-answered g c =
-    answered_to c.args.db.now c.store.new.self _ _ c.store_told.result c.in-Store.is
-    (store_answered c.store.result c.store_told.result _ _ _ _ _ c.store_told.ensures
+    answered_to c.args.db.now c.store.new.self _ _ c.reply_to_store.result c.in-Store.is
+    (store_answered c.store.result c.reply_to_store.result _ _ _ _ _ c.reply_to_store.ensures
     c.as_slice.ensures c.as_slice-in-Store.ensures c.store.ensures.kept c.store.ensures.stored
     c.store.ensures.only c.store.ensures.keeps)
 
@@ -83,12 +83,12 @@ returns-in-Fetch-clause-answered g c =
 pub returns-in-Delete-clause-step : goal.returns-in-Delete-clause-step
 returns-in-Delete-clause-step g c honest h at =
     same_step (ap model.Delete c.as_slice-in-Delete.ensures ∙ sym (ap call_of c.in-Delete.is))
-    (sym (delete_is_told _ _ c.delete_told.ensures)) (c.delete.ensures.step honest h at)
+    (sym (delete_is_told _ _ c.reply_to_delete.ensures)) (c.delete.ensures.step honest h at)
 
 pub returns-in-Delete-clause-answered : goal.returns-in-Delete-clause-answered
 returns-in-Delete-clause-answered g c =
-    answered_to c.args.db.now c.delete.new.self _ _ c.delete_told.result c.in-Delete.is
-    (delete_answered c.delete.result c.delete_told.result _ _ c.delete_told.ensures
+    answered_to c.args.db.now c.delete.new.self _ _ c.reply_to_delete.result c.in-Delete.is
+    (delete_answered c.delete.result c.reply_to_delete.result _ _ c.reply_to_delete.ensures
     c.as_slice-in-Delete.ensures c.delete.ensures.absent c.delete.ensures.deleted
     c.delete.ensures.only c.delete.ensures.keeps)
 
@@ -130,7 +130,7 @@ returns-in-Clear-clause-step g c honest h at =
 
 pub returns-in-Store-clause-goes : goal.returns-in-Store-clause-goes
 returns-in-Store-clause-goes g c =
-    goes_for c.args.db.now c.store.new.self c.args.call.now _ c.store_told.result c.in-Store.is c.store.ensures.keeps.goes
+    goes_for c.args.db.now c.store.new.self c.args.call.now _ c.reply_to_store.result c.in-Store.is c.store.ensures.keeps.goes
 
 pub returns-in-Fetch-clause-goes : goal.returns-in-Fetch-clause-goes
 returns-in-Fetch-clause-goes g c =
@@ -138,7 +138,7 @@ returns-in-Fetch-clause-goes g c =
 
 pub returns-in-Delete-clause-goes : goal.returns-in-Delete-clause-goes
 returns-in-Delete-clause-goes g c =
-    goes_for c.args.db.now c.delete.new.self c.args.call.now _ c.delete_told.result c.in-Delete.is c.delete.ensures.keeps.goes
+    goes_for c.args.db.now c.delete.new.self c.args.call.now _ c.reply_to_delete.result c.in-Delete.is c.delete.ensures.keeps.goes
 
 pub returns-in-First-clause-goes : goal.returns-in-First-clause-goes
 returns-in-First-clause-goes g c =
@@ -164,19 +164,19 @@ returns-in-Clear-clause-goes g c =
 
 pub returns-in-Upgrade-clause-step : goal.returns-in-Upgrade-clause-step
 returns-in-Upgrade-clause-step g c honest h at =
-    same_step (sym (ap call_of c.in-Upgrade.is)) (sym (upgrade_is_told _ _ c.upgrade_told.ensures))
+    same_step (sym (ap call_of c.in-Upgrade.is)) (sym (upgrade_is_told _ _ c.reply_to_upgrade.ensures))
     (c.upgrade.ensures.step honest h at)
 
 pub returns-in-Upgrade-clause-answered : goal.returns-in-Upgrade-clause-answered
 returns-in-Upgrade-clause-answered g c =
-    answered_to c.args.db.now c.upgrade.new.self _ _ c.upgrade_told.result c.in-Upgrade.is
-    (upgrade_answered c.upgrade.result c.upgrade_told.result c.upgrade_told.ensures
+    answered_to c.args.db.now c.upgrade.new.self _ _ c.reply_to_upgrade.result c.in-Upgrade.is
+    (upgrade_answered c.upgrade.result c.reply_to_upgrade.result c.reply_to_upgrade.ensures
     c.upgrade.ensures.upgraded c.upgrade.ensures.only c.upgrade.ensures.keeps)
 
 pub returns-in-Upgrade-clause-goes : goal.returns-in-Upgrade-clause-goes
 returns-in-Upgrade-clause-goes g c =
-    goes_for c.args.db.now c.upgrade.new.self c.args.call.now _ c.upgrade_told.result c.in-Upgrade.is
+    goes_for c.args.db.now c.upgrade.new.self c.args.call.now _ c.reply_to_upgrade.result c.in-Upgrade.is
     (subst (λ (reply : model.Reply).
     IsSameUnder (bounds_after (meta_kept c.args.db.now).bounds model.Upgrade reply) c.args.db.now
-    c.upgrade.new.self) (sym (upgrade_is_told _ _ c.upgrade_told.ensures))
+    c.upgrade.new.self) (sym (upgrade_is_told _ _ c.reply_to_upgrade.ensures))
     c.upgrade.ensures.keeps.goes)

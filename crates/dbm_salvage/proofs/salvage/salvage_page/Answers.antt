@@ -19,7 +19,7 @@ returns-then-is_err-clause-page g c honest =
     unread_page (g.D.SectorDev.seen c.args.dev.now) c.args.pages _ c.args.n _ _ _
     c.in_trouble.ensures.0 c.in_trouble.ensures.1
     (fault_from_test c.read_page.result c.is_err.ensures.value c.if-is_err.true
-    c.read_page.ensures.cause.fault)
+    c.read_page.ensures.device.cause.fault)
 
 pub returns-in-Ok-true-clause-looks : goal.returns-in-Ok-true-clause-looks
 returns-in-Ok-true-clause-looks g c =
@@ -34,9 +34,9 @@ returns-in-Ok-true-clause-looks g c =
         any_moment = told.any_moment h;
       };
       still = told.still;
-      honesty = told.honesty;
-      later = told.cause.later;
-      size = told.size;
+      honesty = told.device.honesty;
+      later = told.device.cause.later;
+      size = told.device.size;
     })
     c.salvage_records.ensures.looks
 
@@ -62,11 +62,11 @@ returns-in-Ok-true-clause-page g c honest =
     (λ found is.
     page_weaker (dev.seen first) c.args.pages (MoreFaults (dev.faults mid) (dev.faults last))
     (MoreFaults (dev.faults first) (dev.faults last)) c.args.n old new found.printed found.trouble
-    (more_later _ _ _ told.cause.later)
+    (more_later _ _ _ told.device.cause.later)
     (subst (λ (image : Image). IsPageSalvaged image c.args.pages
     (MoreFaults (dev.faults mid) (dev.faults last)) c.args.n old new found.printed found.trouble)
     same is))
-    (c.salvage_records.ensures.page (told.honesty.1 honest)
+    (c.salvage_records.ensures.page (told.device.honesty.1 honest)
     (read ∙ ap (λ (image : Image). page_at image c.args.n) (sym same)))
 
 pub returns-in-Ok-false-clause-page : goal.returns-in-Ok-false-clause-page

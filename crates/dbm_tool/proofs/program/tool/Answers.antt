@@ -76,7 +76,7 @@ returns-else-is_unread-clause-fault g c two =
     c.args.environment.verbose _ c.known_of-known.result.line _ _ c.in-Ok.ensures.plan
     c.carry_out-done.ensures.ends c.carry_out-done.ensures.carried c.in-Ok.ensures.verbose
     c.known_of-known.ensures.line (lines_as c.carry_out-done.result _ _ _ _ _ _ _ _
-    c.asked.ensures c.known_of-known.ensures.file c.ended_by.ensures.line)
+    c.wants_more.ensures c.known_of-known.ensures.file c.ended_by.ensures.line)
     c.ended_by.ensures.status two
 
 pub returns-else-is_unread-clause-usage : goal.returns-else-is_unread-clause-usage

@@ -5,9 +5,9 @@ use Rattle.dbm_tool.proofs.texts.load.Goals as goal
 
 pub returns-clause-carried : goal.returns-clause-carried
 returns-clause-carried g c =
-    was_closed _ (there ReadWrite) _ _ c.in_ok-db.db c.load_pairs-loaded.new.db c.told.result
+    was_closed _ (there ReadWrite) _ _ c.in_ok-db.db c.load_pairs-loaded.new.db c.load_outcome.result
     c.in_ok-db.ensures.opens c.in_ok-db.ensures.fresh (record {
       ended = c.load_pairs-loaded.result;
       loads = c.load_pairs-loaded.ensures.loads;
-      is_told = c.told.ensures;
+      is_told = c.load_outcome.ensures;
     }) c.close.ensures.closed

@@ -76,7 +76,7 @@ returns-in_err-check_keys-clause-whole g c honest seen chain are is may damaged 
     let link = link_before _ st _ _ c.loop-step.invariant.reads honest _ _ _ _
     c.in_ok-next.ensures.says in
     let reads = reads_then st _ _ _ (g.met.S.PageStore.counts_now c.loop-step.store)
-    c.loop-step.invariant.reads c.in_ok-next.ensures.reads in
+    c.loop-step.invariant.reads c.in_ok-next.ensures.reads.only in
     let result = c.from_residual-in_err-check_keys in
     let exit = exit_is result.result c.in_err-check_keys.field-0.0 result.ensures.1 in
     c.in_err-check_keys.ensures.whole (still_honest st _ _ reads honest) chain
@@ -97,7 +97,8 @@ returns-in_err-check_contents-clause-whole g c honest seen chain are is may dama
     c.in_ok-next.ensures.says in
     let reads = reads_then st _ _ _ (g.met.S.PageStore.counts_now c.read_link.new.store)
     (reads_then st _ _ _ (g.met.S.PageStore.counts_now c.loop-step.store)
-    c.loop-step.invariant.reads c.in_ok-next.ensures.reads) c.in_ok-check_keys.ensures.reads in
+    c.loop-step.invariant.reads c.in_ok-next.ensures.reads.only)
+    c.in_ok-check_keys.ensures.reads.only in
     let result = c.from_residual-in_err-check_contents in
     let exit = exit_is result.result c.in_err-check_contents.field-0.0 result.ensures.1 in
     let before = seen ++ pages_in part.chain in
@@ -126,9 +127,9 @@ returns-then-next-eq0-clause-sound g c honest seen are =
     let link = link_before _ st _ _ c.loop-step.invariant.reads honest _ _ _ _
     c.in_ok-next.ensures.says in
     let reads = reads_then st _ _ _ (g.met.S.PageStore.counts_now c.loop-step.store)
-    c.loop-step.invariant.reads c.in_ok-next.ensures.reads in
+    c.loop-step.invariant.reads c.in_ok-next.ensures.reads.only in
     let all_reads = reads_then st _ _ _ (g.met.S.PageStore.counts_now c.read_link.new.store) reads
-    c.in_ok-check_keys.ensures.reads in
+    c.in_ok-check_keys.ensures.reads.only in
     let fresh = from_mid st _ _ reads honest
     (λ (at : ℕ → Body) (end : ℕ). HasNewKeys at c.args.head c.loop-step.at records)
     (c.in_ok-check_keys.ensures.sound (still_honest st _ _ reads honest)) in
@@ -154,15 +155,15 @@ loop-step-preserved g c =
     let version = model_version c.args.version in
     let records = page_records c.read_link.new.page.bytes in
     let reads = reads_then st _ _ _ (g.met.S.PageStore.counts_now c.loop-step.store)
-    c.loop-step.invariant.reads c.in_ok-next.ensures.reads in
+    c.loop-step.invariant.reads c.in_ok-next.ensures.reads.only in
     let all_reads = reads_then st _ _ _ (g.met.S.PageStore.counts_now c.read_link.new.store) reads
-    c.in_ok-check_keys.ensures.reads in
+    c.in_ok-check_keys.ensures.reads.only in
     record {
       kinds = inr refl;
       marks = c.in_ok-check_contents.ensures.length ∙ c.if-not-mark.ensures.length
           ∙ c.loop-step.invariant.marks;
       reads = reads_then st _ _ _ (g.met.S.PageStore.counts_now c.check_keys.new.store) all_reads
-          c.in_ok-check_contents.ensures.reads;
+          c.in_ok-check_contents.ensures.reads.only;
       told = kept_then (kept_then (kept_then (kept_then c.loop-step.invariant.told
           c.in_ok-next.ensures.told (λ is. cc))
           c.mark.ensures.told (λ is. let marked = c.if-not-mark.false in cc))

@@ -80,7 +80,7 @@ loop-page-preserved g c =
     record {
       marks = c.if-not-mark.ensures.length ∙ so_far.marks;
       reads = reads_then st _ _ _ (g.met.S.PageStore.counts_now c.loop-page.store) so_far.reads
-          told.reads;
+          told.reads.only;
       told = kept_then (kept_then so_far.told told.told (λ is. cc)) c.mark.ensures.told
           (λ is. let marked = c.if-not-mark.false in cc);
       left = omega (arith, so_far.left, c.min-part.ensures);

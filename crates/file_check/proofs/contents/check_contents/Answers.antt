@@ -1,4 +1,4 @@
-use Rattle.std.proofs.Common.{◌++◌, ◌∙◌, ◌+◌, ℕ, Bool, List, refl, sym, ap, subst, arith}
+use Rattle.std.proofs.Common.{rules, ◌++◌, ◌∙◌, ◌+◌, ℕ, Bool, List, refl, sym, ap, subst, arith}
 use Rattle.page_model.specs.Chain.{pages_of}
 use Rattle.page_model.specs.Pages.{Body}
 use Rattle.page_io.specs.Store.{StoreState}
@@ -39,9 +39,11 @@ check_content-requires g c =
     omega (arith, same, c.requires.marks, c.loop-slot.invariant.marks)
 
 pub returns-in_err-check_content-clause-reads : goal.returns-in_err-check_content-clause-reads
-returns-in_err-check_content-clause-reads g c =
-    reads_then g.S.PageStore _ _ _ (g.met.S.PageStore.counts_now c.loop-slot.store)
-    c.loop-slot.invariant.reads c.in_err-check_content.ensures.reads
+returns-in_err-check_content-clause-reads g c = record {
+  only = reads_then g.S.PageStore _ _ _ (g.met.S.PageStore.counts_now c.loop-slot.store)
+      c.loop-slot.invariant.reads c.in_err-check_content.ensures.reads.only;
+  cause = search rules;
+}
 
 pub returns-in_err-check_content-clause-whole : goal.returns-in_err-check_content-clause-whole
 returns-in_err-check_content-clause-whole g c honest seen entries are of may damaged =
@@ -88,7 +90,7 @@ loop-slot-preserved g c =
             reads = subst (λ (store : g.row.S.Denot). ReadsOnly st c.args.store.now store)
                 (sym w.store-is)
                 (reads_then st _ _ _ (g.met.S.PageStore.counts_now c.loop-slot.store) so_far.reads
-                told.reads);
+                told.reads.only);
             told = subst (λ (watch : g.row.W.Denot).
                 Keeps (g.W.Watch.has_told c.args.watch.now) (g.W.Watch.has_told watch))
                 (sym w.watch-is) (kept_then so_far.told told.told (λ is. cc));

@@ -54,7 +54,7 @@ pub returns-in_err-check_free-clause-whole : goal.returns-in_err-check_free-clau
 returns-in_err-check_free-clause-whole g c honest is damaged =
     let m = model_meta c.args.meta.now in
     let seen = 1 ∷ c.args.meta.now.segments.items in
-    let reads = c.in_ok-pairs.ensures.reads in
+    let reads = c.in_ok-pairs.ensures.reads.only in
     let tables = subst (λ (end : ℕ). AreMarked c.mark_tables.new.marks end seen) c.end-end.ensures
     (c.mark_tables.ensures.marked c.if-not-mark_tables.false) in
     let counted = c.in_ok-pairs.ensures.exact honest seen is.chains tables is.buckets
@@ -75,7 +75,7 @@ pub returns-then-are_all_marked-clause-sound : goal.returns-then-are_all_marked-
 returns-then-are_all_marked-clause-sound g c honest =
     let m = model_meta c.args.meta.now in
     let seen = 1 ∷ c.args.meta.now.segments.items in
-    let reads = c.in_ok-pairs.ensures.reads in
+    let reads = c.in_ok-pairs.ensures.reads.only in
     let tables = subst (λ (end : ℕ). AreMarked c.mark_tables.new.marks end seen) c.end-end.ensures
     (c.mark_tables.ensures.marked c.if-not-mark_tables.false) in
     let buckets = c.in_ok-pairs.ensures.sound honest seen tables in
@@ -108,7 +108,7 @@ pub returns-else-are_all_marked-clause-whole : goal.returns-else-are_all_marked-
 returns-else-are_all_marked-clause-whole g c honest is damaged =
     let m = model_meta c.args.meta.now in
     let seen = 1 ∷ c.args.meta.now.segments.items in
-    let reads = c.in_ok-pairs.ensures.reads in
+    let reads = c.in_ok-pairs.ensures.reads.only in
     let tables = subst (λ (end : ℕ). AreMarked c.mark_tables.new.marks end seen) c.end-end.ensures
     (c.mark_tables.ensures.marked c.if-not-mark_tables.false) in
     let counted = c.in_ok-pairs.ensures.exact honest seen is.chains tables is.buckets

@@ -20,7 +20,7 @@ returns-in_err-meta-clause-damaged g c honest damaged pairs file =
 pub returns-in_err-check_pages-clause-damaged : goal.returns-in_err-check_pages-clause-damaged
 returns-in_err-check_pages-clause-damaged g c honest damaged pairs file =
     let old = c.args.store.now in
-    let reads = c.in_ok-meta.ensures.reads in
+    let reads = c.in_ok-meta.ensures.reads.only in
     let m = model_meta c.in_ok-meta.meta in
     let p = err_from_is_err_and c.from_residual-in_err-check_pages.result
     c.from_residual-in_err-check_pages.ensures.1 in
@@ -35,7 +35,7 @@ returns-in_err-check_pages-clause-damaged g c honest damaged pairs file =
 pub returns-clause-good : goal.returns-clause-good
 returns-clause-good g c honest =
     let old = c.args.store.now in
-    let reads = c.in_ok-meta.ensures.reads in
+    let reads = c.in_ok-meta.ensures.reads.only in
     let m = model_meta c.in_ok-meta.meta in
     good_file _ _ m (omega (arith, (g.met.S.PageStore.in_range old).0)) c.in_ok-meta.ensures.valid
     (c.in_ok-meta.ensures.says honest)

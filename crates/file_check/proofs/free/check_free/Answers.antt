@@ -1,4 +1,4 @@
-use Rattle.std.proofs.Common.{◌≡◌, ◌+◌, ◌++◌, ◌∷◌, [], ℕ, List, take, get_or, Err, Some, append-nil, refl, sym, ap, ◌∙◌, subst, arith}
+use Rattle.std.proofs.Common.{rules, ◌≡◌, ◌+◌, ◌++◌, ◌∷◌, [], ℕ, List, take, get_or, Err, Some, append-nil, refl, sym, ap, ◌∙◌, subst, arith}
 use Rattle.std.proofs.lemmas.Result.{err_from_is_err_and}
 use Rattle.page_model.specs.Pages.{FreePage}
 use Rattle.page_io.specs.declared.store.PageFault.TheVariants.{Damaged}
@@ -114,19 +114,25 @@ loop-init g c = record {
 }
 
 pub returns-in_err-read-clause-reads : goal.returns-in_err-read-clause-reads
-returns-in_err-read-clause-reads g c =
-    read_then g.S.PageStore _ _ _ (g.met.S.PageStore.counts_now c.loop.store)
-    (g.met.S.PageStore.counts_now c.read.new.store) c.loop.invariant.reads
-    c.read.ensures.state c.read.ensures.honesty c.read.ensures.cause.later c.read.ensures.kept
+returns-in_err-read-clause-reads g c = record {
+  only = read_then g.S.PageStore _ _ _ (g.met.S.PageStore.counts_now c.loop.store)
+      (g.met.S.PageStore.counts_now c.read.new.store) c.loop.invariant.reads
+      c.read.ensures.state c.read.ensures.honesty c.read.ensures.cause.later c.read.ensures.kept;
+  cause = search rules;
+}
 
 pub returns-in_err-next-clause-reads : goal.returns-in_err-next-clause-reads
-returns-in_err-next-clause-reads g c =
-    read_then g.S.PageStore _ _ _ (g.met.S.PageStore.counts_now c.loop.store)
-    (g.met.S.PageStore.counts_now c.read.new.store) c.loop.invariant.reads
-    c.read.ensures.state c.read.ensures.honesty c.read.ensures.cause.later c.read.ensures.kept
+returns-in_err-next-clause-reads g c = record {
+  only = read_then g.S.PageStore _ _ _ (g.met.S.PageStore.counts_now c.loop.store)
+      (g.met.S.PageStore.counts_now c.read.new.store) c.loop.invariant.reads
+      c.read.ensures.state c.read.ensures.honesty c.read.ensures.cause.later c.read.ensures.kept;
+  cause = search rules;
+}
 
 pub returns-then-not-mark-clause-reads : goal.returns-then-not-mark-clause-reads
-returns-then-not-mark-clause-reads g c =
-    read_then g.S.PageStore _ _ _ (g.met.S.PageStore.counts_now c.loop.store)
-    (g.met.S.PageStore.counts_now c.read.new.store) c.loop.invariant.reads
-    c.read.ensures.state c.read.ensures.honesty c.read.ensures.cause.later c.read.ensures.kept
+returns-then-not-mark-clause-reads g c = record {
+  only = read_then g.S.PageStore _ _ _ (g.met.S.PageStore.counts_now c.loop.store)
+      (g.met.S.PageStore.counts_now c.read.new.store) c.loop.invariant.reads
+      c.read.ensures.state c.read.ensures.honesty c.read.ensures.cause.later c.read.ensures.kept;
+  cause = search rules;
+}

@@ -1,4 +1,4 @@
-use Rattle.std.proofs.Common.{◌≡◌, inr, refl, ap, Err, arith}
+use Rattle.std.proofs.Common.{rules, ◌≡◌, inr, refl, ap, Err, arith}
 use Rattle.std.proofs.lemmas.Result.{err_from_is_err_and}
 use Rattle.page_io.specs.declared.store.PageFault.TheVariants.{Damaged}
 use Rattle.page_io.proofs.Views.{reads_then}
@@ -16,9 +16,11 @@ returns-then-at-n-clause-sound g c honest =
     (c.loop-step.invariant.walked honest)
 
 pub returns-in_err-next-clause-reads : goal.returns-in_err-next-clause-reads
-returns-in_err-next-clause-reads g c =
-    reads_then g.S.PageStore _ _ _ (g.met.S.PageStore.counts_now c.loop-step.store)
-    c.loop-step.invariant.reads c.in_err-next.ensures.reads
+returns-in_err-next-clause-reads g c = record {
+  only = reads_then g.S.PageStore _ _ _ (g.met.S.PageStore.counts_now c.loop-step.store)
+      c.loop-step.invariant.reads c.in_err-next.ensures.reads.only;
+  cause = search rules;
+}
 
 pub returns-in_err-next-clause-whole : goal.returns-in_err-next-clause-whole
 returns-in_err-next-clause-whole g c honest chain new damaged =
@@ -50,7 +52,7 @@ pub loop-step-preserved : goal.loop-step-preserved
 loop-step-preserved g c = record {
   kinds = inr refl;
   reads = reads_then g.S.PageStore _ _ _ (g.met.S.PageStore.counts_now c.loop-step.store)
-      c.loop-step.invariant.reads c.in_ok-next.ensures.reads;
+      c.loop-step.invariant.reads c.in_ok-next.ensures.reads.only;
   told = kept_then c.loop-step.invariant.told c.in_ok-next.ensures.told (λ is. cc);
   walked = λ honest.
       let link = link_before _ g.S.PageStore _ _ c.loop-step.invariant.reads honest _ _ _ _

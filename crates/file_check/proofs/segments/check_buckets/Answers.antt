@@ -61,7 +61,7 @@ loop-s-preserved g c =
     record {
       length = c.in_ok-more.ensures.length ∙ c.loop-s.invariant.length;
       reads = reads_then g.S.PageStore _ _ _ (g.met.S.PageStore.counts_now c.loop-s.store) reads
-          c.in_ok-more.ensures.reads;
+          c.in_ok-more.ensures.reads.only;
       told = kept_then c.loop-s.invariant.told c.in_ok-more.ensures.told (λ is. cc);
       sound = λ honest seen are. more_segments _ _ m c.loop-s.s c.loop-s.pairs c.in_ok-more.more _
           c.loop-s.marks _ seen c.requires.meta within (c.loop-s.invariant.sound honest seen are)

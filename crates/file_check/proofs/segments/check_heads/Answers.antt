@@ -56,7 +56,7 @@ loop-i-preserved g c =
     record {
       length = c.in_ok-more.ensures.length ∙ c.loop-i.invariant.length;
       reads = reads_then g.S.PageStore _ _ _ (g.met.S.PageStore.counts_now c.loop-i.store) reads
-          c.in_ok-more.ensures.reads;
+          c.in_ok-more.ensures.reads.only;
       told = λ told was. c.bucket.ensures told
           (kept_then c.loop-i.invariant.told c.in_ok-more.ensures.told (λ is. cc) told was);
       sound = λ honest seen are. more_heads _ _ _ _ _ c.loop-i.i c.loop-i.pairs c.in_ok-more.more _

@@ -1,4 +1,4 @@
-use Rattle.std.proofs.Common.{◌≡◌, ◌*◌, ◌<◌, ◌++◌, ℕ, List, flat_map, get_or, Err, refl, sym, ap, ◌∙◌, subst, arith}
+use Rattle.std.proofs.Common.{rules, ◌≡◌, ◌*◌, ◌<◌, ◌++◌, ℕ, List, flat_map, get_or, Err, refl, sym, ap, ◌∙◌, subst, arith}
 use Rattle.std.proofs.lemmas.Result.{err_from_is_err_and}
 use Rattle.std.specs.Prelude.{IfOk}
 use Rattle.page_model.specs.Chain.{pages_in}
@@ -49,11 +49,13 @@ returns-then-not-segment_ok-clause-whole g c honest seen chains are is may damag
     absurd (cc (yes))
 
 pub returns-clause-reads : goal.returns-clause-reads
-returns-clause-reads g c =
-    reads_then g.S.PageStore _ _ _ (g.met.S.PageStore.counts_now c.read.new.store)
-    (after_read g.S.PageStore c.args.store.now c.read.new.store
-    (g.met.S.PageStore.counts_now c.read.new.store) c.read.ensures.state c.read.ensures.honesty
-    c.read.ensures.cause.later c.read.ensures.kept) c.check_heads.ensures.reads
+returns-clause-reads g c = record {
+  only = reads_then g.S.PageStore _ _ _ (g.met.S.PageStore.counts_now c.read.new.store)
+      (after_read g.S.PageStore c.args.store.now c.read.new.store
+      (g.met.S.PageStore.counts_now c.read.new.store) c.read.ensures.state c.read.ensures.honesty
+      c.read.ensures.cause.later c.read.ensures.kept) c.check_heads.ensures.reads.only;
+  cause = search rules;
+}
 
 pub returns-clause-sound : goal.returns-clause-sound
 returns-clause-sound g c honest seen are =
@@ -146,7 +148,9 @@ returns-clause-whole g c honest seen chains are is may damaged =
     (λ at end. MayBeSeen end (seen ++ flat_map pages_in chains)) may) damaged
 
 pub returns-then-not-segment_ok-clause-reads : goal.returns-then-not-segment_ok-clause-reads
-returns-then-not-segment_ok-clause-reads g c =
-    after_read g.S.PageStore c.args.store.now c.read.new.store
-    (g.met.S.PageStore.counts_now c.read.new.store) c.read.ensures.state c.read.ensures.honesty
-    c.read.ensures.cause.later c.read.ensures.kept
+returns-then-not-segment_ok-clause-reads g c = record {
+  only = after_read g.S.PageStore c.args.store.now c.read.new.store
+      (g.met.S.PageStore.counts_now c.read.new.store) c.read.ensures.state c.read.ensures.honesty
+      c.read.ensures.cause.later c.read.ensures.kept;
+  cause = search rules;
+}

@@ -42,11 +42,11 @@ since_unchanged g c honest =
     let staged = c.stage_empty-staged.ensures in
     unchanged_since g.S.PageStore c.args.store.now c.stage_empty-staged.new.store c.finish.new.store
     c.finish.result _ staged.stages honest
-    (λ y is. g.met.S.PageStore.only_committed c.args.store.now y honest c.requires.usable
-    c.requires.writable is)
+    (λ y is. g.met.S.PageStore.only_committed c.args.store.now y honest c.requires.ready.usable
+    c.requires.ready.writable is)
     (c.finish.ensures.unchanged (staged.stages.honesty.1 honest)
-    (ap (λ (st : StoreState). st.usable) staged.stages.state ∙ c.requires.usable)
-    (ap (λ (st : StoreState). st.writable) staged.stages.state ∙ c.requires.writable))
+    (ap (λ (st : StoreState). st.usable) staged.stages.state ∙ c.requires.ready.usable)
+    (ap (λ (st : StoreState). st.writable) staged.stages.state ∙ c.requires.ready.writable))
 
 has_room : (g : Over) (c : goal.After-finish g) → IsErrOf c.finish.result NoRoom
     ⊎ IfOk c.stage_empty-staged.result
@@ -59,27 +59,28 @@ has_room g c =
     (state c.stage_empty-staged.new.store) (bytes_of c.pages_of_empty.result)
     staged.stages.state (g.met.S.PageStore.in_range c.args.store.now).0
     c.pages_of_empty.ensures.numbers staged.staged c.finish.ensures.answer
-    (ap (λ (st : StoreState). st.usable) staged.stages.state ∙ c.requires.usable)
-    (ap (λ (st : StoreState). st.writable) staged.stages.state ∙ c.requires.writable)
+    (ap (λ (st : StoreState). st.usable) staged.stages.state ∙ c.requires.ready.usable)
+    (ap (λ (st : StoreState). st.writable) staged.stages.state ∙ c.requires.ready.writable)
 
 pub returns-clause-any_moment : goal.returns-clause-any_moment
 returns-clause-any_moment g c honest =
     let staged = c.stage_empty-staged.ensures in
     let made = c.pages_of_empty.ensures in
-    let usable = ap (λ (st : StoreState). st.usable) staged.stages.state ∙ c.requires.usable in
+    let usable = ap (λ (st : StoreState). st.usable) staged.stages.state
+    ∙ c.requires.ready.usable in
     let writable = ap (λ (st : StoreState). st.writable) staged.stages.state
-    ∙ c.requires.writable in
+    ∙ c.requires.ready.writable in
     let h1 = staged.stages.honesty.1 honest in
     ⊎_elim
     (λ none. left_by_refusal g.S.PageStore c.args.store.now c.finish.new.store c.finish.result _
-    (model_meta c.args.meta.now).bounds none c.requires.usable (is_forgotten g c)
+    (model_meta c.args.meta.now).bounds none c.requires.ready.usable (is_forgotten g c)
     (since_unchanged g c honest))
     (λ due. leaves_old_or_empty g.S.PageStore c.args.store.now c.stage_empty-staged.new.store
     c.finish.new.store (model_meta c.args.meta.now) (bytes_of c.pages_of_empty.result)
     staged.stages honest made.stands made.meta made.numbers
     c.stage_empty-staged.result due staged.staged
-    (λ y is. g.met.S.PageStore.only_committed c.args.store.now y honest c.requires.usable
-    c.requires.writable is)
+    (λ y is. g.met.S.PageStore.only_committed c.args.store.now y honest c.requires.ready.usable
+    c.requires.ready.writable is)
     (c.finish.ensures.any_moment h1 usable writable))
     (has_room g c)
 
@@ -90,7 +91,7 @@ pub pages_of_empty-requires-clause-fresh : goal.pages_of_empty-requires-clause-f
 pages_of_empty-requires-clause-fresh g c = c.requires.fresh
 
 pub stage_empty-staged-requires-clause-idle : goal.stage_empty-staged-requires-clause-idle
-stage_empty-staged-requires-clause-idle g c = c.requires.idle
+stage_empty-staged-requires-clause-idle g c = c.requires.ready.idle
 
 pub stage_empty-staged-requires-clause-numbers : goal.stage_empty-staged-requires-clause-numbers
 stage_empty-staged-requires-clause-numbers g c = c.pages_of_empty.ensures.numbers
@@ -109,7 +110,7 @@ returns-clause-ok g c =
     commit_ok _ c.stage_empty-staged.result c.finish.result c.finish.ensures.refused staged.staged
     c.finish.ensures.ok
     (λ end is done. committed_state (state c.args.store.now) (state c.stage_empty-staged.new.store)
-    (state c.finish.new.store) staged.stages.state end c.requires.idle is.0 done)
+    (state c.finish.new.store) staged.stages.state end c.requires.ready.idle is.0 done)
 
 pub returns-clause-err : goal.returns-clause-err
 returns-clause-err g c = is_forgotten g c
@@ -135,9 +136,9 @@ returns-clause-only g c =
     let done = c.finish.ensures in
     only_of _ c.stage_empty-staged.result c.finish.result
     (g.S.PageStore.state c.stage_empty-staged.new.store) done.refused staged.only
-    (λ broken. staged.broken broken c.requires.usable) done.answer
-    (ap (λ (st : StoreState). st.usable) staged.stages.state ∙ c.requires.usable)
-    (ap (λ (st : StoreState). st.writable) staged.stages.state ∙ c.requires.writable)
+    (λ broken. staged.broken broken c.requires.ready.usable) done.answer
+    (ap (λ (st : StoreState). st.usable) staged.stages.state ∙ c.requires.ready.usable)
+    (ap (λ (st : StoreState). st.writable) staged.stages.state ∙ c.requires.ready.writable)
 
 pub returns-clause-no_room : goal.returns-clause-no_room
 returns-clause-no_room g c is =

@@ -41,10 +41,10 @@ returns-in-Ok-clause-any_moment g c honest =
     let file = file_pages (overlaid (bytes_of store.waiting.items) (page_at (dev.seen mid)))
     store.end in
     let size = ap (λ (n : ℕ). n / 4) all.size in
-    settles_on dev.moment dev.left_since old mid (device_left c.opened.result) cap
+    settles_on dev.moment dev.left_since old mid (device_left c.open_there.result) cap
     (dev.sectors mid / 4) P _ size
     (before_settle dev cap old mid _ run)
-    (c.opened.ensures.any_moment h1)
+    (c.open_there.ensures.any_moment h1)
     (λ y. ⊎_elim
     (λ was. inl (settles_from cap (dev.sectors mid / 4) (dev.candidate old) (dev.candidate mid) y
     size (λ image is. run.each image
@@ -80,10 +80,10 @@ returns-in-Ok-clause-stands g c honest one stand =
     let written = may_empty how (dev.sectors old)
     (sym (ap (early_fault how) c.capacity-sectors.ensures) ∙ sym c.early_refusal.ensures
     ∙ c.in_default.is) in
-    both_ok c.opened.result (c.opened.ensures.stands h1
+    both_ok c.open_there.result (c.open_there.ensures.stands h1
     (λ now was. only_seen (dev.sectors mid / 4) (dev.candidate mid) (dev.seen mid) now _
     stable rest.settles was) what.map what.bounds what.stands)
-    (c.opened.ensures.emptied h1)
+    (c.open_there.ensures.emptied h1)
     (λ new opens due. opened_as_asked how (dev.sectors old) (dev.candidate old) file what new
     (all.committed honest) opens.0 opens.1 written
     (λ asked. ap (λ (n : ℕ). emptying_fault (bounds_of how) n (length file + 1))
@@ -95,7 +95,7 @@ returns-in-Ok-clause-opened g c honest =
     let store = c.in-Ok.store in
     let file = file_pages (overlaid (bytes_of store.waiting.items)
     (page_at (g.D.SectorDev.seen store.dev))) store.end in
-    from_ok c.opened.result (c.opened.ensures.opened (all.honesty.1 honest)) (λ new keeps.
+    from_ok c.open_there.result (c.open_there.ensures.opened (all.honesty.1 honest)) (λ new keeps.
     inl (
       file,
       all.committed honest,
@@ -103,8 +103,8 @@ returns-in-Ok-clause-opened g c honest =
     ))
 
 -- what refuses a file that was found
-file_refused : (g : Over) (c : goal.After-opened g) → g.D.SectorDev.honest c.args.dev
-    → IfErr c.opened.result (λ e.
+file_refused : (g : Over) (c : goal.After-open_there g) → g.D.SectorDev.honest c.args.dev
+    → IfErr c.open_there.result (λ e.
     (e.1 ≡ Device → ⊥) → IsRefusedOpening c.args.how (g.D.SectorDev.sectors c.args.dev)
     (g.D.SectorDev.candidate c.args.dev) (g.D.SectorDev.candidate e.0) e.1)
 file_refused g c honest =
@@ -115,7 +115,8 @@ file_refused g c honest =
     let all = c.in-Ok.ensures in
     let file = file_pages (overlaid (bytes_of store.waiting.items) (page_at (dev.seen store.dev)))
     store.end in
-    each_err c.opened.result (c.opened.ensures.refused (all.honesty.1 honest)) (λ e is why other.
+    each_err c.open_there.result (c.open_there.ensures.refused (all.honesty.1 honest))
+    (λ e is why other.
     let both = why other in
     refused_file how (dev.sectors old) (dev.candidate old) (dev.candidate e.0) file e.1
     (all.committed honest) (subst (λ (n : ℕ). RefusesOpened how n file e.1) all.size both.0)
@@ -128,20 +129,20 @@ returns-in-Ok-clause-refused g c honest none = file_refused g c honest
 pub returns-in-Ok-clause-opens : goal.returns-in-Ok-clause-opens
 returns-in-Ok-clause-opens g c honest none stand allow =
     let dev = g.D.SectorDev in
-    each_err c.opened.result (file_refused g c honest)
+    each_err c.open_there.result (file_refused g c honest)
     (λ e is why. only_memory c.args.how (dev.sectors c.args.dev) (dev.candidate c.args.dev)
     (dev.candidate e.0) e.1 stand allow why)
 
-pub opened-requires-clause-sectors : goal.opened-requires-clause-sectors
-opened-requires-clause-sectors g c = c.capacity-sectors.ensures ∙ sym c.in-Ok.ensures.size
+pub open_there-requires-clause-sectors : goal.open_there-requires-clause-sectors
+open_there-requires-clause-sectors g c = c.capacity-sectors.ensures ∙ sym c.in-Ok.ensures.size
 
-pub opened-requires-clause-fresh : goal.opened-requires-clause-fresh
-opened-requires-clause-fresh g c =
+pub open_there-requires-clause-fresh : goal.open_there-requires-clause-fresh
+open_there-requires-clause-fresh g c =
     fresh_there _ _ _ _ c.in-Ok.ensures.state
     (ap (λ (n : ℕ). n / 4) c.in-Ok.ensures.size) (search rules)
 
-pub opened-requires-clause-written : goal.opened-requires-clause-written
-opened-requires-clause-written g c =
+pub open_there-requires-clause-written : goal.open_there-requires-clause-written
+open_there-requires-clause-written g c =
     may_empty c.args.how (g.D.SectorDev.sectors c.args.dev)
     (sym (ap (early_fault c.args.how) c.capacity-sectors.ensures) ∙ sym c.early_refusal.ensures
     ∙ c.in_default.is)
@@ -153,41 +154,38 @@ returns-in-Ok-clause-early g c =
 
 pub returns-in-Ok-clause-fresh : goal.returns-in-Ok-clause-fresh
 returns-in-Ok-clause-fresh g c =
-    just_opened c.opened.result _ _ _ _ refl (ap (λ (n : ℕ). n / 4) c.in-Ok.ensures.size)
-    c.opened.ensures.fresh
+    just_opened c.open_there.result _ _ _ _ refl (ap (λ (n : ℕ). n / 4) c.in-Ok.ensures.size)
+    c.open_there.ensures.fresh
 
 pub returns-in-Ok-clause-only_reads : goal.returns-in-Ok-clause-only_reads
 returns-in-Ok-clause-only_reads g c reading honest =
     let all = c.in-Ok.ensures in
-    more_reads g.D.SectorDev c.args.dev c.in-Ok.store.dev (device_left c.opened.result)
+    more_reads g.D.SectorDev c.args.dev c.in-Ok.store.dev (device_left c.open_there.result)
     (all.only_reads (c.is_writable.ensures ∙ reading) honest)
-    (c.opened.ensures.only_reads reading (all.honesty.1 honest))
+    (c.open_there.ensures.only_reads reading (all.honesty.1 honest))
 
 pub returns-in-Ok-clause-device : goal.returns-in-Ok-clause-device
-returns-in-Ok-clause-device g c =
-    let dev = g.D.SectorDev in
-    each_err c.opened.result c.opened.ensures.device
-    (λ e same more is. more_later (dev.faults c.args.dev) (dev.faults c.in-Ok.store.dev)
-    (dev.faults e.0) c.in-Ok.ensures.cause.later (more is))
+returns-in-Ok-clause-device g c = record {
+  honesty = both_ways c.open_there.ensures.device.honesty c.in-Ok.ensures.honesty;
+  later = later_then _ _ _ c.in-Ok.ensures.cause.later c.open_there.ensures.device.later;
+  fault = let dev = g.D.SectorDev in
+      each_err c.open_there.result c.open_there.ensures.device.fault
+      (λ e same more is. more_later (dev.faults c.args.dev) (dev.faults c.in-Ok.store.dev)
+      (dev.faults e.0) c.in-Ok.ensures.cause.later (more is));
+}
 
 pub returns-in-Ok-clause-only : goal.returns-in-Ok-clause-only
-returns-in-Ok-clause-only g c = c.opened.ensures.only
-
-pub returns-in-Ok-clause-honesty : goal.returns-in-Ok-clause-honesty
-returns-in-Ok-clause-honesty g c = both_ways c.opened.ensures.honesty c.in-Ok.ensures.honesty
-
-pub returns-in-Ok-clause-later : goal.returns-in-Ok-clause-later
-returns-in-Ok-clause-later g c = later_then _ _ _ c.in-Ok.ensures.cause.later c.opened.ensures.later
+returns-in-Ok-clause-only g c = c.open_there.ensures.only
 
 pub returns-in-Ok-clause-size : goal.returns-in-Ok-clause-size
 returns-in-Ok-clause-size g c =
     let all = c.in-Ok.ensures in
-    let then = c.opened.ensures in
+    let then = c.open_there.ensures in
     (then.size.0 ∙ ap (λ (n : ℕ). n / 4) all.size, λ kept. then.size.1 kept ∙ all.size)
 
 -- ---- a blank device
 
-blank_told : (g : Over) (c : goal.After-made g) → g.D.SectorDev.honest c.args.dev
+blank_told : (g : Over) (c : goal.After-make_database g) → g.D.SectorDev.honest c.args.dev
     → Tells c.args.how (g.D.SectorDev.sectors c.args.dev) (g.D.SectorDev.candidate c.args.dev)
     (g.D.SectorDev.candidate c.in-Err-default-Blank.dev) redo.Blank
 blank_told g c honest =
@@ -218,11 +216,11 @@ returns-in-Err-default-Blank-clause-any_moment g c honest =
     let fault = making_fault how (dev.sectors new) in
     by_access (writes how.access)
     (λ on.
-    settles_on dev.moment dev.left_since old new (device_left c.made.result) cap
+    settles_on dev.moment dev.left_since old new (device_left c.make_database.result) cap
     (dev.sectors new / 4) P (BlankOrNew fault (bounds_of how)) size first
-    (settles_run dev.moment dev.left_since new (device_left c.made.result) (dev.sectors new / 4)
-    (BlankOrNew fault (bounds_of how))
-    (c.made.ensures.any_moment h1
+    (settles_run dev.moment dev.left_since new (device_left c.make_database.result)
+    (dev.sectors new / 4) (BlankOrNew fault (bounds_of how))
+    (c.make_database.ensures.any_moment h1
     (λ image is. ap (λ (n : ℕ). settled n image) size
     ∙ all_blank how (dev.sectors old) (dev.candidate old) (dev.candidate new)
     told on image is)))
@@ -237,8 +235,8 @@ returns-in-Err-default-Blank-clause-any_moment g c honest =
       made.1,
     ))))
     (λ off. subst (λ d. LeavesOnly dev.moment (IsOutcome dev.left_since (settled cap)) old d P)
-    (sym (device_untouched fault new c.made.result
-    (none_for_reading how (dev.sectors new) off) c.made.ensures.untouched)) first)
+    (sym (device_untouched fault new c.make_database.result
+    (none_for_reading how (dev.sectors new) off) c.make_database.ensures.untouched)) first)
 
 pub returns-in-Err-default-Blank-clause-stands : goal.returns-in-Err-default-Blank-clause-stands
 returns-in-Err-default-Blank-clause-stands g c honest one stand =
@@ -248,8 +246,8 @@ returns-in-Err-default-Blank-clause-stands g c honest one stand =
     let new = c.in-Err-default-Blank.dev in
     let there = has_blank how (dev.sectors old) (dev.candidate old) (dev.candidate new)
     (blank_told g c honest) in
-    both_ok c.made.result c.made.ensures.asked
-    (c.made.ensures.stands (c.in-Err-default-Blank.ensures.honesty.1 honest))
+    both_ok c.make_database.result c.make_database.ensures.asked
+    (c.make_database.ensures.stands (c.in-Err-default-Blank.ensures.honesty.1 honest))
     (λ file none stands.
     let due = ap (making_fault how) (sym c.in-Err-default-Blank.ensures.size) ∙ none in
     (empty, bounds_of how, stands, inr (inl (record { due = due; on_blank = there }), refl, refl)))
@@ -262,11 +260,12 @@ returns-in-Err-default-Blank-clause-opened g c honest =
     let all = c.in-Err-default-Blank.ensures in
     let there = has_blank how (dev.sectors old) (dev.candidate old)
     (dev.candidate c.in-Err-default-Blank.dev) (blank_told g c honest) in
-    both_ok c.made.result c.made.ensures.asked c.made.ensures.meta (λ file none fresh.
+    both_ok c.make_database.result c.make_database.ensures.asked c.make_database.ensures.meta
+    (λ file none fresh.
     inr (record { due = ap (making_fault how) (sym all.size) ∙ none; on_blank = there }, fresh))
 
-blank_refused : (g : Over) (c : goal.After-made g) → g.D.SectorDev.honest c.args.dev
-    → IfErr c.made.result (λ e. (e.1 ≡ Device → ⊥)
+blank_refused : (g : Over) (c : goal.After-make_database g) → g.D.SectorDev.honest c.args.dev
+    → IfErr c.make_database.result (λ e. (e.1 ≡ Device → ⊥)
     → IsRefusedOpening c.args.how (g.D.SectorDev.sectors c.args.dev)
     (g.D.SectorDev.candidate c.args.dev) (g.D.SectorDev.candidate e.0) e.1)
 blank_refused g c honest =
@@ -274,7 +273,7 @@ blank_refused g c honest =
     let old = c.args.dev in
     let how = c.args.how in
     let new = c.in-Err-default-Blank.dev in
-    each_err c.made.result c.made.ensures.refused (λ e is why other.
+    each_err c.make_database.result c.make_database.ensures.refused (λ e is why other.
     let made = why other in
     subst (λ d. IsRefusedOpening how (dev.sectors old) (dev.candidate old) (dev.candidate d) e.1)
     (sym made.1)
@@ -288,7 +287,7 @@ returns-in-Err-default-Blank-clause-refused g c honest none = blank_refused g c 
 pub returns-in-Err-default-Blank-clause-opens : goal.returns-in-Err-default-Blank-clause-opens
 returns-in-Err-default-Blank-clause-opens g c honest none stand allow =
     let dev = g.D.SectorDev in
-    each_err c.made.result (blank_refused g c honest)
+    each_err c.make_database.result (blank_refused g c honest)
     (λ e is why. only_memory c.args.how (dev.sectors c.args.dev) (dev.candidate c.args.dev)
     (dev.candidate e.0) e.1 stand allow why)
 
@@ -299,8 +298,8 @@ returns-in-Err-default-Blank-clause-early g c =
 
 pub returns-in-Err-default-Blank-clause-fresh : goal.returns-in-Err-default-Blank-clause-fresh
 returns-in-Err-default-Blank-clause-fresh g c =
-    made_opened c.made.result _ _ _ c.made.ensures.asked c.made.ensures.fresh
-    (λ none. sym (was_asked c.args.how _ none).1)
+    made_opened c.make_database.result _ _ _ c.make_database.ensures.asked
+    c.make_database.ensures.fresh (λ none. sym (was_asked c.args.how _ none).1)
     (ap (λ (n : ℕ). n / 4) c.in-Err-default-Blank.ensures.size)
 
 pub returns-in-Err-default-Blank-clause-only_reads : goal.returns-in-Err-default-Blank-clause-only_reads
@@ -308,33 +307,29 @@ returns-in-Err-default-Blank-clause-only_reads g c reading honest =
     let dev = g.D.SectorDev in
     let new = c.in-Err-default-Blank.dev in
     subst (OnlyReads dev c.args.dev)
-    (sym (device_untouched (making_fault c.args.how (dev.sectors new)) new c.made.result
-    (none_for_reading c.args.how (dev.sectors new) reading) c.made.ensures.untouched))
+    (sym (device_untouched (making_fault c.args.how (dev.sectors new)) new c.make_database.result
+    (none_for_reading c.args.how (dev.sectors new) reading) c.make_database.ensures.untouched))
     (c.in-Err-default-Blank.ensures.only_reads (c.is_writable.ensures ∙ reading) honest)
 
 pub returns-in-Err-default-Blank-clause-device : goal.returns-in-Err-default-Blank-clause-device
-returns-in-Err-default-Blank-clause-device g c =
-    let dev = g.D.SectorDev in
-    each_err c.made.result c.made.ensures.device
-    (λ e same more is. more_later (dev.faults c.args.dev)
-    (dev.faults c.in-Err-default-Blank.dev) (dev.faults e.0)
-    c.in-Err-default-Blank.ensures.cause.later (more is))
+returns-in-Err-default-Blank-clause-device g c = record {
+  honesty = both_ways c.make_database.ensures.device.honesty c.in-Err-default-Blank.ensures.honesty;
+  later = later_then _ _ _ c.in-Err-default-Blank.ensures.cause.later
+      c.make_database.ensures.device.later;
+  fault = let dev = g.D.SectorDev in
+      each_err c.make_database.result c.make_database.ensures.device.fault
+      (λ e same more is. more_later (dev.faults c.args.dev)
+      (dev.faults c.in-Err-default-Blank.dev) (dev.faults e.0)
+      c.in-Err-default-Blank.ensures.cause.later (more is));
+}
 
 pub returns-in-Err-default-Blank-clause-only : goal.returns-in-Err-default-Blank-clause-only
 returns-in-Err-default-Blank-clause-only g c =
-    each_err c.made.result c.made.ensures.only (λ e is among. of_made e.1 among)
-
-pub returns-in-Err-default-Blank-clause-honesty : goal.returns-in-Err-default-Blank-clause-honesty
-returns-in-Err-default-Blank-clause-honesty g c =
-    both_ways c.made.ensures.honesty c.in-Err-default-Blank.ensures.honesty
-
-pub returns-in-Err-default-Blank-clause-later : goal.returns-in-Err-default-Blank-clause-later
-returns-in-Err-default-Blank-clause-later g c =
-    later_then _ _ _ c.in-Err-default-Blank.ensures.cause.later c.made.ensures.later
+    each_err c.make_database.result c.make_database.ensures.only (λ e is among. of_made e.1 among)
 
 pub returns-in-Err-default-Blank-clause-size : goal.returns-in-Err-default-Blank-clause-size
 returns-in-Err-default-Blank-clause-size g c =
-    let size = c.made.ensures.size ∙ c.in-Err-default-Blank.ensures.size in
+    let size = c.make_database.ensures.size ∙ c.in-Err-default-Blank.ensures.size in
     (ap (λ (n : ℕ). n / 4) size, λ kept. size)
 
 -- ---- a device that is no good file
@@ -394,11 +389,13 @@ returns-in-Err-default-NotOurs g c = record {
       (g.D.SectorDev.candidate c.in-Err-default-NotOurs.dev) c.or_exists.result stand allow
       (λ other. not_ours_refused g c honest);
   refused = λ honest none other. not_ours_refused g c honest;
-  device = λ is. absurd ((of_no_file (is_exclusive c.args.how) c.or_exists.result
-      c.or_exists.ensures).1 is);
+  device = record {
+    honesty = c.in-Err-default-NotOurs.ensures.honesty;
+    later = c.in-Err-default-NotOurs.ensures.cause.later;
+    fault = λ is. absurd ((of_no_file (is_exclusive c.args.how) c.or_exists.result
+        c.or_exists.ensures).1 is);
+  };
   only = (of_no_file (is_exclusive c.args.how) c.or_exists.result c.or_exists.ensures).0;
-  honesty = c.in-Err-default-NotOurs.ensures.honesty;
-  later = c.in-Err-default-NotOurs.ensures.cause.later;
   size = (
     ap (λ (n : ℕ). n / 4) c.in-Err-default-NotOurs.ensures.size,
     λ kept.
@@ -424,13 +421,15 @@ returns-in-Err-default-Damaged g c = record {
       (g.D.SectorDev.candidate c.in-Err-default-Damaged.dev)
       c.or_exists-in-Err-default-Damaged.result stand allow (λ other. damaged_refused g c honest);
   refused = λ honest none other. damaged_refused g c honest;
-  device = λ is. absurd ((of_damaged (is_exclusive c.args.how)
-      c.or_exists-in-Err-default-Damaged.result
-      c.or_exists-in-Err-default-Damaged.ensures).1 is);
+  device = record {
+    honesty = c.in-Err-default-Damaged.ensures.honesty;
+    later = c.in-Err-default-Damaged.ensures.cause.later;
+    fault = λ is. absurd ((of_damaged (is_exclusive c.args.how)
+        c.or_exists-in-Err-default-Damaged.result
+        c.or_exists-in-Err-default-Damaged.ensures).1 is);
+  };
   only = (of_damaged (is_exclusive c.args.how) c.or_exists-in-Err-default-Damaged.result
       c.or_exists-in-Err-default-Damaged.ensures).0;
-  honesty = c.in-Err-default-Damaged.ensures.honesty;
-  later = c.in-Err-default-Damaged.ensures.cause.later;
   size = (
     ap (λ (n : ℕ). n / 4) c.in-Err-default-Damaged.ensures.size,
     λ kept.
@@ -466,10 +465,12 @@ returns-in-Err-default-Memory g c = record {
       c.is_writable.ensures (not_writing g c)
       (g.met.D.SectorDev.seen_may_stay c.args.dev honest)
       (c.in-Err-default-Memory.ensures.memory honest c.in-Err-default-Memory.field-0-1-is);
-  device = λ is. absurd (same_false the_type Memory Device refl is);
+  device = record {
+    honesty = c.in-Err-default-Memory.ensures.honesty;
+    later = c.in-Err-default-Memory.ensures.cause.later;
+    fault = λ is. absurd (same_false the_type Memory Device refl is);
+  };
   only = memory_opens;
-  honesty = c.in-Err-default-Memory.ensures.honesty;
-  later = c.in-Err-default-Memory.ensures.cause.later;
   size = (
     ap (λ (n : ℕ). n / 4) c.in-Err-default-Memory.ensures.size,
     λ kept.
@@ -492,10 +493,12 @@ returns-in-Err-default-Device g c = record {
       c.in-Err-default-Device.ensures.only_reads (c.is_writable.ensures ∙ reading) honest;
   opens = λ honest none stand allow. inl refl;
   refused = λ honest none other. absurd (other refl);
-  device = λ is. c.in-Err-default-Device.ensures.cause.fault c.in-Err-default-Device.field-0-1-is;
+  device = record {
+    honesty = c.in-Err-default-Device.ensures.honesty;
+    later = c.in-Err-default-Device.ensures.cause.later;
+    fault = λ is. c.in-Err-default-Device.ensures.cause.fault c.in-Err-default-Device.field-0-1-is;
+  };
   only = device_opens;
-  honesty = c.in-Err-default-Device.ensures.honesty;
-  later = c.in-Err-default-Device.ensures.cause.later;
   size = (
     ap (λ (n : ℕ). n / 4) c.in-Err-default-Device.ensures.size,
     λ kept.
@@ -526,9 +529,11 @@ returns-in-Some g c = record {
       (λ image left. g.met.D.SectorDev.only_now c.args.dev image honest left);
   opens = λ honest none. not_none _ c.in-Some.fault (early_is g c) none;
   refused = λ honest none. not_none _ c.in-Some.fault (early_is g c) none;
-  device = λ is. absurd ((of_early c.args.how _ c.in-Some.fault (early_is g c)).1 is);
+  device = record {
+    honesty = same_honest g.D.SectorDev c.args.dev c.args.dev refl;
+    later = same_faults g.D.SectorDev c.args.dev c.args.dev refl;
+    fault = λ is. absurd ((of_early c.args.how _ c.in-Some.fault (early_is g c)).1 is);
+  };
   only = (of_early c.args.how _ c.in-Some.fault (early_is g c)).0;
-  honesty = same_honest g.D.SectorDev c.args.dev c.args.dev refl;
-  later = same_faults g.D.SectorDev c.args.dev c.args.dev refl;
   size = (refl, λ kept. refl);
 }

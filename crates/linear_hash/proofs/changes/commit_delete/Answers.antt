@@ -60,13 +60,14 @@ module _ (g : Over) (c : After-finish g) (map : Contents)
         (staged.exact honest plan table there).0
         (on_ok_weaker c.stage_delete-staged.result (λ kept. kept.bounds) staged.kept) in
         leaves_either g.S.PageStore c.args.store.now c.stage_delete-staged.new.store
-        c.finish.new.store c.stage_delete-staged.result c.finish.result staged.stages honest map
+        c.finish.new.store c.stage_delete-staged.result c.finish.result staged.stages.only honest
+        map
         (remove map c.args.key.now) (model_meta c.args.meta.now).bounds holds.stands
         (λ y is. g.met.S.PageStore.only_committed c.args.store.now y honest usable
         c.requires.writable is) (model_meta c.args.meta.now).bounds then
-        (c.finish.ensures.any_moment (staged.stages.honesty.1 honest)
-        (ap (λ (st : StoreState). st.usable) staged.stages.state ∙ usable)
-        (ap (λ (st : StoreState). st.writable) staged.stages.state ∙ c.requires.writable))
+        (c.finish.ensures.any_moment (staged.stages.only.honesty.1 honest)
+        (ap (λ (st : StoreState). st.usable) staged.stages.only.state ∙ usable)
+        (ap (λ (st : StoreState). st.writable) staged.stages.only.state ∙ c.requires.writable))
 
 -- how it ends on any device
 pub returns-clause-ends : goal.returns-clause-ends
@@ -74,7 +75,7 @@ returns-clause-ends g c =
     let staged = c.stage_delete-staged.ensures in
     let done = c.finish.ensures in
     committed_so g.S.PageStore _ _ c.finish.new.store _ c.stage_delete-staged.result c.finish.result
-    staged.stages c.requires.idle c.requires.writable staged.answer.change staged.cause
+    staged.stages.only c.requires.idle c.requires.writable staged.answer.change staged.stages.cause
     (on_ok_weaker c.stage_delete-staged.result (λ kept. kept.valid) staged.kept) done.refused
     done.ok done.err
     done.answer done.cause done.later done.honesty done.kept
@@ -103,14 +104,14 @@ pub returns-clause-no_memory : goal.returns-clause-no_memory
 returns-clause-no_memory g c honest p table near is =
     c.stage_delete-staged.ensures.no_memory honest p table near
     (told_by g.S.PageStore _ _ c.finish.new.store c.stage_delete-staged.result
-    c.finish.result c.stage_delete-staged.ensures.stages _ Memory never_memory
+    c.finish.result c.stage_delete-staged.ensures.stages.only _ Memory never_memory
     c.finish.ensures.answer c.finish.ensures.refused is)
 
 pub returns-clause-memory : goal.returns-clause-memory
 returns-clause-memory g c is =
     c.stage_delete-staged.ensures.answer.memory
     (told_by g.S.PageStore _ _ c.finish.new.store c.stage_delete-staged.result
-    c.finish.result c.stage_delete-staged.ensures.stages _ Memory never_memory
+    c.finish.result c.stage_delete-staged.ensures.stages.only _ Memory never_memory
     c.finish.ensures.answer c.finish.ensures.refused is)
 
 -- the staged pages are few
@@ -128,11 +129,11 @@ returns-clause-room g c room =
       late.2,
       end,
       staged.few,
-      ap (λ (s : StoreState). s.end) staged.stages.state,
-      ap (λ (s : StoreState). s.capacity) staged.stages.state,
+      ap (λ (s : StoreState). s.end) staged.stages.only.state,
+      ap (λ (s : StoreState). s.capacity) staged.stages.only.state,
     ))
     (no_room_by st _ _ c.finish.new.store c.stage_delete-staged.result c.finish.result
-    staged.stages _ c.finish.ensures.answer c.finish.ensures.refused room)
+    staged.stages.only _ c.finish.ensures.answer c.finish.ensures.refused room)
 
 pub returns-clause-turns : goal.returns-clause-turns
 returns-clause-turns g c honest usable map holds was =
@@ -150,7 +151,7 @@ returns-clause-turns g c honest usable map holds was =
           (commit_ok _ c.stage_delete-staged.result c.finish.result c.finish.ensures.refused
           (staged.exact honest (plan g c map holds) (table g c map holds)
           (there g c map holds was)).0
-          (c.finish.ensures.committed (staged.stages.honesty.1 honest))
+          (c.finish.ensures.committed (staged.stages.only.honesty.1 honest))
           (λ end body_at committed. commit_holds g.S.PageStore c.stage_delete-staged.new.store _
           end q good body_at c.finish.new.store committed));
       bounds = returns-clause-bounds g c;
@@ -160,17 +161,17 @@ returns-clause-turns g c honest usable map holds was =
           on_err_weaker c.finish.result
           (λ run usable_now. leaves_old g.S.PageStore c.args.store.now
           c.stage_delete-staged.new.store c.finish.new.store c.stage_delete-staged.result
-          c.finish.result staged.stages honest map map (model_meta c.args.meta.now).bounds
+          c.finish.result staged.stages.only honest map map (model_meta c.args.meta.now).bounds
           holds.stands
           (λ y is. g.met.S.PageStore.only_committed c.args.store.now y honest usable
           c.requires.writable is) (run usable_now))
-          (c.finish.ensures.unchanged (staged.stages.honesty.1 honest)
-          (ap (λ (st : StoreState). st.usable) staged.stages.state ∙ usable)
-          (ap (λ (st : StoreState). st.writable) staged.stages.state
+          (c.finish.ensures.unchanged (staged.stages.only.honesty.1 honest)
+          (ap (λ (st : StoreState). st.usable) staged.stages.only.state ∙ usable)
+          (ap (λ (st : StoreState). st.writable) staged.stages.only.state
           ∙ c.requires.writable));
       whole = λ damaged.
           let early = told_by g.S.PageStore _ _ c.finish.new.store c.stage_delete-staged.result
-          c.finish.result c.stage_delete-staged.ensures.stages _ Damaged never_damaged
+          c.finish.result c.stage_delete-staged.ensures.stages.only _ Damaged never_damaged
           c.finish.ensures.answer c.finish.ensures.refused damaged in
           (c.stage_delete-staged.ensures.exact honest (plan g c map holds)
           (table g c map holds) (there g c map holds was)).1 early;
@@ -196,7 +197,7 @@ returns-clause-turns g c honest usable map holds was =
           let in_table = table g c map holds in
           let end = (delete (plan g c map holds) c.args.key.now).space.end in
           let by = no_room_by g.S.PageStore _ _ c.finish.new.store c.stage_delete-staged.result
-          c.finish.result staged.stages _ c.finish.ensures.answer
+          c.finish.result staged.stages.only _ c.finish.ensures.answer
           c.finish.ensures.refused room in
           short_by _ end _ _ _ _ (⊎_elim (λ early. absurd (staged.answer.no_room early))
           (λ late.
@@ -213,9 +214,14 @@ returns-clause-turns g c honest usable map holds was =
           (g.met.S.PageStore.in_order c.stage_delete-staged.new.store) can.may_commit.below
           (omega (arith, can.may_commit.least)) in
           let short = lacks_twice (g.S.PageStore.state c.stage_delete-staged.new.store) late.0 _
-          late.2 (omega (arith, can.grows, ap (λ (st : StoreState). st.end) staged.stages.state))
+          late.2 (omega (
+            arith,
+            can.grows,
+            ap (λ (st : StoreState). st.end)
+                staged.stages.only.state,
+          ))
           few
-          (ap (λ (st : StoreState). st.capacity) staged.stages.state) in
+          (ap (λ (st : StoreState). st.capacity) staged.stages.only.state) in
           omega (arith, short, is.ends)) by) (bounded g c map holds)
           (omega (arith, in_table.ends));
     }
@@ -223,7 +229,7 @@ returns-clause-turns g c honest usable map holds was =
 pub returns-clause-deleted : goal.returns-clause-deleted
 returns-clause-deleted g c honest =
     let staged = c.stage_delete-staged.ensures in
-    let h1 = staged.stages.honesty.1 honest in
+    let h1 = staged.stages.only.honesty.1 honest in
     written_committed g.S.PageStore c.stage_delete-staged.new.store c.finish.new.store _ _ _ _
     c.stage_delete-staged.result c.finish.result c.finish.ensures.refused
     (can_commit_so _ _ c.stage_delete-staged.result staged.may_commit)

@@ -78,14 +78,14 @@ module _ (g : Over) (c : After-finish g) (map : Contents)
       (staged.exact honest plan table may there)
       (on_ok_weaker c.stage_store-staged.result (λ kept. kept.bounds) staged.kept) in
       leaves_either g.S.PageStore c.args.store.now c.stage_store-staged.new.store c.finish.new.store
-      c.stage_store-staged.result c.finish.result staged.stages honest map
+      c.stage_store-staged.result c.finish.result staged.stages.only honest map
       (insert map c.args.key.now c.args.content.now) (model_meta c.args.meta.now).bounds
       holds.stands
       (λ y is. g.met.S.PageStore.only_committed c.args.store.now y honest usable
       c.requires.writable is) (model_meta c.args.meta.now).bounds then
-      (c.finish.ensures.any_moment (staged.stages.honesty.1 honest)
-      (ap (λ (st : StoreState). st.usable) staged.stages.state ∙ usable)
-      (ap (λ (st : StoreState). st.writable) staged.stages.state ∙ c.requires.writable))
+      (c.finish.ensures.any_moment (staged.stages.only.honesty.1 honest)
+      (ap (λ (st : StoreState). st.usable) staged.stages.only.state ∙ usable)
+      (ap (λ (st : StoreState). st.writable) staged.stages.only.state ∙ c.requires.writable))
 
 -- how it ends on any device
 pub returns-clause-ends : goal.returns-clause-ends
@@ -93,7 +93,7 @@ returns-clause-ends g c =
     let staged = c.stage_store-staged.ensures in
     let done = c.finish.ensures in
     committed_so g.S.PageStore _ _ c.finish.new.store _ c.stage_store-staged.result c.finish.result
-    staged.stages c.requires.idle c.requires.writable staged.answer staged.cause
+    staged.stages.only c.requires.idle c.requires.writable staged.answer staged.stages.cause
     (on_ok_weaker c.stage_store-staged.result (λ kept. kept.valid) staged.kept) done.refused
     done.ok done.err
     done.answer done.cause done.later done.honesty done.kept
@@ -119,14 +119,14 @@ pub returns-clause-memory : goal.returns-clause-memory
 returns-clause-memory g c is =
     c.stage_store-staged.ensures.memory
     (told_by g.S.PageStore _ _ c.finish.new.store c.stage_store-staged.result
-    c.finish.result c.stage_store-staged.ensures.stages _ Memory never_memory
+    c.finish.result c.stage_store-staged.ensures.stages.only _ Memory never_memory
     c.finish.ensures.answer c.finish.ensures.refused is)
 
 pub returns-clause-sparing : goal.returns-clause-sparing
 returns-clause-sparing g c honest p table was is =
     c.stage_store-staged.ensures.sparing honest p table was
     (told_by g.S.PageStore _ _ c.finish.new.store c.stage_store-staged.result
-    c.finish.result c.stage_store-staged.ensures.stages _ Memory never_memory
+    c.finish.result c.stage_store-staged.ensures.stages.only _ Memory never_memory
     c.finish.ensures.answer c.finish.ensures.refused is)
 
 pub returns-clause-turns : goal.returns-clause-turns
@@ -145,7 +145,7 @@ returns-clause-turns g c honest usable map holds was =
           (commit_ok _ c.stage_store-staged.result c.finish.result c.finish.ensures.refused
           (staged.exact honest (plan g c map holds was) (table g c map holds was)
           (may g c map holds was) (there g c map holds was))
-          (c.finish.ensures.committed (staged.stages.honesty.1 honest))
+          (c.finish.ensures.committed (staged.stages.only.honesty.1 honest))
           (λ end body_at committed. commit_holds g.S.PageStore c.stage_store-staged.new.store _
           end q good body_at c.finish.new.store committed));
       bounds = returns-clause-bounds g c;
@@ -155,17 +155,17 @@ returns-clause-turns g c honest usable map holds was =
           on_err_weaker c.finish.result
           (λ run usable_now. leaves_old g.S.PageStore c.args.store.now
           c.stage_store-staged.new.store c.finish.new.store c.stage_store-staged.result
-          c.finish.result staged.stages honest map map (model_meta c.args.meta.now).bounds
+          c.finish.result staged.stages.only honest map map (model_meta c.args.meta.now).bounds
           holds.stands
           (λ y is. g.met.S.PageStore.only_committed c.args.store.now y honest usable
           c.requires.writable is) (run usable_now))
-          (c.finish.ensures.unchanged (staged.stages.honesty.1 honest)
-          (ap (λ (st : StoreState). st.usable) staged.stages.state ∙ usable)
-          (ap (λ (st : StoreState). st.writable) staged.stages.state
+          (c.finish.ensures.unchanged (staged.stages.only.honesty.1 honest)
+          (ap (λ (st : StoreState). st.usable) staged.stages.only.state ∙ usable)
+          (ap (λ (st : StoreState). st.writable) staged.stages.only.state
           ∙ c.requires.writable));
       whole = λ damaged.
           let early = told_by g.S.PageStore _ _ c.finish.new.store c.stage_store-staged.result
-          c.finish.result c.stage_store-staged.ensures.stages _ Damaged never_damaged
+          c.finish.result c.stage_store-staged.ensures.stages.only _ Damaged never_damaged
           c.finish.ensures.answer c.finish.ensures.refused damaged in
           (c.stage_store-staged.ensures.refused honest (plan g c map holds was)
           (table g c map holds was) (there g c map holds was)).whole early;
@@ -205,7 +205,7 @@ returns-clause-turns g c honest usable map holds was =
           let pairs = ap (λ (m : Meta). m.pairs) in_table.meta_is in
           let good = stored_good g.S.PageStore c.args.store.now (model_meta c.args.meta.now) map
           holds (pair g c map holds was) (may g c map holds was) in
-          let capacity = ap (λ (st : StoreState). st.capacity) staged.stages.state in
+          let capacity = ap (λ (st : StoreState). st.capacity) staged.stages.only.state in
           let most : changed.space.end ≤ (g.S.PageStore.state c.args.store.now).end
           + c.args.meta.now.pairs + most_taken (model_meta c.args.meta.now).bounds.version =
           omega (
@@ -216,7 +216,7 @@ returns-clause-turns g c honest usable map holds was =
             ap (λ (m : Meta). most_taken m.bounds.version) in_table.meta_is,
           ) in
           let by = no_room_by g.S.PageStore _ _ c.finish.new.store c.stage_store-staged.result
-          c.finish.result staged.stages _ c.finish.ensures.answer
+          c.finish.result staged.stages.only _ c.finish.ensures.answer
           c.finish.ensures.refused room in
           ⊎_elim
           (λ early. short_early (model_meta c.args.meta.now).bounds _ changed.space.end _ _ _
@@ -239,7 +239,12 @@ returns-clause-turns g c honest usable map holds was =
           (g.met.S.PageStore.in_order c.stage_store-staged.new.store) can.may_commit.below
           (omega (arith, can.may_commit.least)) in
           let short = lacks_twice (g.S.PageStore.state c.stage_store-staged.new.store) late.0 _
-          late.2 (omega (arith, can.grows, ap (λ (st : StoreState). st.end) staged.stages.state))
+          late.2 (omega (
+            arith,
+            can.grows,
+            ap (λ (st : StoreState). st.end)
+                staged.stages.only.state,
+          ))
           few
           capacity in
           short_by _ changed.space.end _ _ _ _ (omega (arith, short, is.ends))
@@ -249,7 +254,7 @@ returns-clause-turns g c honest usable map holds was =
 pub returns-clause-stored : goal.returns-clause-stored
 returns-clause-stored g c honest =
     let staged = c.stage_store-staged.ensures in
-    let h1 = staged.stages.honesty.1 honest in
+    let h1 = staged.stages.only.honesty.1 honest in
     written_committed g.S.PageStore c.stage_store-staged.new.store c.finish.new.store _ _ _ _
     c.stage_store-staged.result c.finish.result c.finish.ensures.refused
     (can_commit_so _ _ c.stage_store-staged.result staged.may_commit)

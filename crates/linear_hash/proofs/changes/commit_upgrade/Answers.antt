@@ -50,8 +50,8 @@ returns-clause-ends g c =
     let staged = c.stage_upgrade-staged.ensures in
     let done = c.finish.ensures in
     committed_so g.S.PageStore _ _ c.finish.new.store _ c.stage_upgrade-staged.result
-    c.finish.result staged.stages c.requires.idle c.requires.writable
-    (stage_answers _ _ _ _ _ refl staged.answer) staged.cause
+    c.finish.result staged.stages.only c.requires.idle c.requires.writable
+    (stage_answers _ _ _ _ _ refl staged.answer) staged.stages.cause
     (on_ok c.stage_upgrade-staged.result (subst IsMeta (sym staged.meta)
     (raised_valid _ c.requires.valid))) done.refused done.ok done.err done.answer done.cause
     done.later done.honesty done.kept
@@ -71,11 +71,11 @@ returns-clause-room g c room =
       late.2,
       end,
       staged.few,
-      ap (λ (s : StoreState). s.end) staged.stages.state,
-      ap (λ (s : StoreState). s.capacity) staged.stages.state,
+      ap (λ (s : StoreState). s.end) staged.stages.only.state,
+      ap (λ (s : StoreState). s.capacity) staged.stages.only.state,
     ))
     (no_room_by st _ _ c.finish.new.store c.stage_upgrade-staged.result c.finish.result
-    staged.stages _ c.finish.ensures.answer c.finish.ensures.refused room)
+    staged.stages.only _ c.finish.ensures.answer c.finish.ensures.refused room)
 
 -- on any file: the meta page is staged with the bounds of version 2, and then it is committed
 pub returns-clause-upgraded : goal.returns-clause-upgraded
@@ -87,7 +87,7 @@ returns-clause-upgraded g c honest =
     let after = model_meta c.stage_upgrade-staged.new.meta in
     let old = body_at st c.args.store.now in
     let new = body_at st c.stage_upgrade-staged.new.store in
-    let h1 = staged.stages.honesty.1 honest in
+    let h1 = staged.stages.only.honesty.1 honest in
     let written = staged_ok c.stage_upgrade-staged.result
     (λ page last is. written_so (Unchanged old) old new (raised_meta m) after
     (space_in m end) last refl staged.meta is page (staged.others honest)
@@ -147,10 +147,10 @@ returns-clause-turns g c honest usable map holds =
     let bounds = on_ok c.stage_upgrade-staged.result
     (ap (λ (m : Meta). m.bounds) staged.meta) in
     let bounded = raised_bounded _ _ _ p (table g c map holds) in
-    let usable_then = ap (λ (s : StoreState). s.usable) staged.stages.state ∙ usable in
-    let writable_then = ap (λ (s : StoreState). s.writable) staged.stages.state
+    let usable_then = ap (λ (s : StoreState). s.usable) staged.stages.only.state ∙ usable in
+    let writable_then = ap (λ (s : StoreState). s.writable) staged.stages.only.state
     ∙ c.requires.writable in
-    let h1 = staged.stages.honesty.1 honest in
+    let h1 = staged.stages.only.honesty.1 honest in
     let only : (y : Settled) → st.settles_to c.args.store.now y
     → y ≡ file_of (st.committed c.args.store.now) =
     λ y settles. g.met.S.PageStore.only_committed c.args.store.now y honest usable
@@ -166,7 +166,8 @@ returns-clause-turns g c honest usable map holds =
       bounds = ok_then _ _ _ c.finish.result c.finish.ensures.refused bounds;
       kept = (returns-clause-ends g c).kept honest;
       any_moment = leaves_either st c.args.store.now c.stage_upgrade-staged.new.store
-          c.finish.new.store c.stage_upgrade-staged.result c.finish.result staged.stages honest map
+          c.finish.new.store c.stage_upgrade-staged.result c.finish.result staged.stages.only
+          honest map
           map old holds.stands only wanted
           (staged_stands st c.stage_upgrade-staged.new.store
           (model_meta c.stage_upgrade-staged.new.meta) q map wanted
@@ -175,11 +176,11 @@ returns-clause-turns g c honest usable map holds =
       unchanged = on_err_weaker c.finish.result
           (λ run usable_now. leaves_old st c.args.store.now
           c.stage_upgrade-staged.new.store c.finish.new.store c.stage_upgrade-staged.result
-          c.finish.result staged.stages honest map map old holds.stands only (run usable_now))
+          c.finish.result staged.stages.only honest map map old holds.stands only (run usable_now))
           (c.finish.ensures.unchanged h1 usable_then writable_then);
       whole = λ damaged.
           let early = told_by st _ _ c.finish.new.store c.stage_upgrade-staged.result
-          c.finish.result staged.stages _ Damaged never_damaged
+          c.finish.result staged.stages.only _ Damaged never_damaged
           c.finish.ensures.answer c.finish.ensures.refused damaged in
           last_not_damaged _ _ _ _ staged.answer early;
       grows = grows_to _ _ q (st.state c.args.store.now)
@@ -192,7 +193,7 @@ returns-clause-turns g c honest usable map holds =
           c.finish.ensures.refused c.finish.ensures.ok there bounded;
       no_room = λ room.
           let by = no_room_by st _ _ c.finish.new.store c.stage_upgrade-staged.result
-          c.finish.result staged.stages _ c.finish.ensures.answer
+          c.finish.result staged.stages.only _ c.finish.ensures.answer
           c.finish.ensures.refused room in
           short_by _ q.space.end _ _ _ _ (⊎_elim
           (λ early. absurd (last_has_room _ _ _ _ staged.answer early))
@@ -209,8 +210,8 @@ returns-clause-turns g c honest usable map holds =
           (g.met.S.PageStore.in_order c.stage_upgrade-staged.new.store) can.below
           (omega (arith, can.least)) in
           let short = lacks_twice (st.state c.stage_upgrade-staged.new.store) late.0 _
-          late.2 (omega (arith, grow, ap (λ (s : StoreState). s.end) staged.stages.state)) few
-          (ap (λ (s : StoreState). s.capacity) staged.stages.state) in
+          late.2 (omega (arith, grow, ap (λ (s : StoreState). s.end) staged.stages.only.state)) few
+          (ap (λ (s : StoreState). s.capacity) staged.stages.only.state) in
           omega (arith, short, placed.ends)) by) bounded
           (omega (arith, (table g c map holds).ends));
     }

@@ -26,8 +26,7 @@ returns-in_err-head g c =
     let result = c.from_residual in
     let exit = exit_is result.result c.in_err-head.field-0.0 result.ensures.1 in
     record {
-      reads = told.reads;
-      cause = cause_first _ _ exit _ _ told.cause;
+      reads = record { only = told.reads.only; cause = cause_first _ _ exit _ _ told.reads.cause };
       answer = head_of_walk _ _ refl _ _ exit told.answer;
       held = IfOk-from_err _ _ result.ensures.0;
       searched = λ honest. IfOk-from_err _ _ result.ensures.0;
@@ -58,7 +57,7 @@ chain_there : (g : Over) (c : goal.After-lookup g) → g.S.PageStore.honest c.ar
     (chain_at p (key_bucket p.shape c.args.key.now))
 chain_there g c honest p table =
     let chain = chain_at p (key_bucket p.shape c.args.key.now) in
-    let reads = c.in_ok-head.ensures.reads in
+    let reads = c.in_ok-head.ensures.reads.only in
     let bucket = bucket_is g c in
     let head = c.in_ok-head.ensures.exact honest (heads_of p.chains) (table_heads _ _ _ p table)
     (table_below _ _ _ p table c.args.key.now c.bucket.result bucket) in
@@ -72,21 +71,21 @@ chain_there g c honest p table =
     c.in_ok-head.head chain) (sym (same_said g.S.PageStore _ _ reads honest)) there)
 
 pub returns-clause-reads : goal.returns-clause-reads
-returns-clause-reads g c = reads_then g.S.PageStore _ _ _
-    (g.met.S.PageStore.counts_now c.head_of.new.store) c.in_ok-head.ensures.reads
-    c.lookup.ensures.reads
-
-pub returns-clause-cause : goal.returns-clause-cause
-returns-clause-cause g c = cause_last _ _ _ _ c.in_ok-head.ensures.cause.later
-    c.lookup.ensures.cause
+returns-clause-reads g c = record {
+  only = reads_then g.S.PageStore _ _ _
+      (g.met.S.PageStore.counts_now c.head_of.new.store) c.in_ok-head.ensures.reads.only
+      c.lookup.ensures.reads.only;
+  cause = cause_last _ _ _ _ c.in_ok-head.ensures.reads.cause.later
+      c.lookup.ensures.reads.cause;
+}
 
 pub returns-clause-answer : goal.returns-clause-answer
 returns-clause-answer g c = subst (λ (s : StoreState). IsWalkAnswer s c.lookup.result)
-    c.in_ok-head.ensures.reads.same c.lookup.ensures.answer
+    c.in_ok-head.ensures.reads.only.same c.lookup.ensures.answer
 
 pub returns-clause-searched : goal.returns-clause-searched
 returns-clause-searched g c honest =
-    let reads = c.in_ok-head.ensures.reads in
+    let reads = c.in_ok-head.ensures.reads.only in
     searched_from _ _ (model_meta c.args.meta.now) c.args.key.now c.bucket.result c.in_ok-head.head
     c.lookup.new.page.bytes c.lookup.result (bucket_is g c) (c.in_ok-head.ensures.entry honest)
     (same_said g.S.PageStore _ _ reads honest)
@@ -96,17 +95,17 @@ pub returns-clause-exact : goal.returns-clause-exact
 returns-clause-exact g c honest p table =
     IfOk-weaker c.lookup.result _ _
     (λ place looked. found_in _ _ _ p c.args.key.now c.lookup.new.page.bytes place table looked)
-    (c.lookup.ensures.exact (c.in_ok-head.ensures.reads.stages_only.honesty.1 honest) _
+    (c.lookup.ensures.exact (c.in_ok-head.ensures.reads.only.stages_only.honesty.1 honest) _
     (chain_there g c honest p table))
 
 pub returns-clause-whole : goal.returns-clause-whole
 returns-clause-whole g c honest p table =
-    c.lookup.ensures.whole (c.in_ok-head.ensures.reads.stages_only.honesty.1 honest) _
+    c.lookup.ensures.whole (c.in_ok-head.ensures.reads.only.stages_only.honesty.1 honest) _
     (chain_there g c honest p table)
 
 pub returns-clause-readable : goal.returns-clause-readable
 returns-clause-readable g c honest can =
-    let reads = c.in_ok-head.ensures.reads in
+    let reads = c.in_ok-head.ensures.reads.only in
     c.lookup.ensures.readable (reads.stages_only.honesty.1 honest)
     (look_from _ _ (model_meta c.args.meta.now) _ _ c.args.key.now c.bucket.result
     c.in_ok-head.head (bucket_is g c) (c.in_ok-head.ensures.entry honest)

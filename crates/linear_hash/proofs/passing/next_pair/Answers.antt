@@ -74,7 +74,7 @@ pub returns-in_err-slot-clause-whole : goal.returns-in_err-slot-clause-whole
 returns-in_err-slot-clause-whole g c honest p table damaged =
     let so_far = c.loop-head.invariant in
     let still = still_honest g.S.PageStore _ _ so_far.reads honest in
-    let reads = c.in_ok-head.ensures.reads in
+    let reads = c.in_ok-head.ensures.reads.only in
     let result = c.from_residual-in_err-slot in
     let exit = exit_is result.result c.in_err-slot.field-0.0 result.ensures.1 in
     let chain = chain_there g.S.PageStore _ _ _ p so_far.reads honest table _ _ _ reads
@@ -90,7 +90,7 @@ read_here : (g : Over) (c : In_ok-slot g) → g.S.PageStore.honest c.args.store.
 read_here g c honest answer is =
     let so_far = c.loop-head.invariant in
     let still = still_honest g.S.PageStore _ _ so_far.reads honest in
-    let reads = c.in_ok-head.ensures.reads in
+    let reads = c.in_ok-head.ensures.reads.only in
     bucket_read _ _ _ (model_meta c.args.meta.now) c.loop-head.bucket c.in_ok-head.head
     (from_of c.args.last) c.least_behind.new.page.bytes answer so_far.within so_far.to_read
     (same_said g.S.PageStore _ _ so_far.reads honest) (same_said g.S.PageStore _ _ reads still)
@@ -110,7 +110,7 @@ least_here : (g : Over) (c : In_ok-slot g) → g.S.PageStore.honest c.args.store
 least_here g c honest p table answer is =
     let so_far = c.loop-head.invariant in
     let still = still_honest g.S.PageStore _ _ so_far.reads honest in
-    let reads = c.in_ok-head.ensures.reads in
+    let reads = c.in_ok-head.ensures.reads.only in
     let chain = chain_there g.S.PageStore _ _ _ p so_far.reads honest table _ _ _ reads
     so_far.within (c.in_ok-head.ensures.exact still) in
     subst (IsLeast (pairs_in (chain_at p c.loop-head.bucket)) (from_of c.args.last)
@@ -152,7 +152,7 @@ loop-head-preserved g c =
     record {
       reads = reads_then g.S.PageStore _ _ _ (counts c.head_of.new.store)
           (reads_then g.S.PageStore _ _ _ (counts c.loop-head.store) so_far.reads
-          c.in_ok-head.ensures.reads) c.in_ok-slot.ensures.reads;
+          c.in_ok-head.ensures.reads.only) c.in_ok-slot.ensures.reads.only;
       within = following.there;
       to_read = to_read_next (model_meta c.args.meta.now) c.requires.split_in low
           (from_of c.args.last) c.loop-head.bucket c.in-Some-following.next so_far.within
@@ -183,15 +183,17 @@ returns-in-None-clause-exact g c honest p table =
     (least_here g c.before.before.before honest p table None c.in_default.is) c.in-None.ensures.last
 
 pub returns-in-None-clause-reads : goal.returns-in-None-clause-reads
-returns-in-None-clause-reads g c = search rules
+returns-in-None-clause-reads g c = record { only = search rules; cause = search rules }
 
 pub returns-in-Some-clause-ahead : goal.returns-in-Some-clause-ahead
 returns-in-Some-clause-ahead g c = search rules
 
 pub returns-in_err-slot-clause-reads : goal.returns-in_err-slot-clause-reads
-returns-in_err-slot-clause-reads g c = search rules
+returns-in_err-slot-clause-reads g c = record { only = search rules; cause = search rules }
 
 pub returns-in_err-head-clause-reads : goal.returns-in_err-head-clause-reads
-returns-in_err-head-clause-reads g c =
-    reads_then g.S.PageStore _ _ _ (g.met.S.PageStore.counts_now c.loop-head.store)
-    c.loop-head.invariant.reads c.in_err-head.ensures.reads
+returns-in_err-head-clause-reads g c = record {
+  only = reads_then g.S.PageStore _ _ _ (g.met.S.PageStore.counts_now c.loop-head.store)
+      c.loop-head.invariant.reads c.in_err-head.ensures.reads.only;
+  cause = search rules;
+}

@@ -38,13 +38,17 @@ returns-in_err-put_record g c =
     let result = c.from_residual in
     let exit = exit_is result.result c.in_err-put_record.field-0.0 result.ensures.1 in
     record {
-      stages = stages_then g.S.PageStore _ _ _ (g.met.S.PageStore.counts_now c.loop-pair.store)
-          so_far.stages told.stages;
-      cause = cause_then _ _ exit _ _ _ so_far.stages.later told.cause;
+      stages = record {
+        only = stages_then g.S.PageStore _ _ _ (g.met.S.PageStore.counts_now c.loop-pair.store)
+            so_far.stages told.stages.only;
+        cause = cause_then _ _ exit _ _ _ so_far.stages.later told.stages.cause;
+      };
       answer = put_refused _ _ (ap (λ (s : StoreState). s.usable) so_far.stages.state) _ _ exit
           _ _ _ told.answer;
-      ends = λ e. told.ends (so_far.ends e);
-      may_end = λ may. IfOk-from_err _ _ result.ensures.0;
+      keeps = record {
+        ends = λ e. told.keeps.ends (so_far.ends e);
+        may_end = λ may. IfOk-from_err _ _ result.ensures.0;
+      };
       added = λ honest. IfOk-from_err _ _ result.ensures.0;
       exact = λ honest p from. IfOk-from_err _ _ result.ensures.0;
       whole = λ honest p from damaged.
@@ -81,9 +85,10 @@ pub loop-pair-preserved : goal.loop-pair-preserved
 loop-pair-preserved g c =
     let st = g.S.PageStore in record {
       stages = stages_then st _ _ _ (g.met.S.PageStore.counts_now c.loop-pair.store)
-          c.loop-pair.invariant.stages c.in_ok-put_record.ensures.stages;
-      ends = λ e. c.in_ok-put_record.ensures.ends (c.loop-pair.invariant.ends e);
-      may_end = λ may. c.in_ok-put_record.ensures.may_end (c.loop-pair.invariant.may_end may);
+          c.loop-pair.invariant.stages c.in_ok-put_record.ensures.stages.only;
+      ends = λ e. c.in_ok-put_record.ensures.keeps.ends (c.loop-pair.invariant.ends e);
+      may_end = λ may.
+          c.in_ok-put_record.ensures.keeps.may_end (c.loop-pair.invariant.may_end may);
       added = λ honest.
           let i = c.loop-pair.pair-index in
           let item = c.pair-item.result in

@@ -14,7 +14,7 @@ use Rattle.bucket_chain.specs.Pairs.{record_as}
 use Rattle.bucket_chain.specs.Walks.{SaysAll}
 use Rattle.bucket_chain.specs.AnyFile.{AreAdded}
 use Rattle.bucket_chain.proofs.Added.{all_under}
-use Rattle.linear_hash.specs.AnyFile.{IsOpened, head_for}
+use Rattle.linear_hash.specs.AnyFile.{IsExtended, head_for}
 use Rattle.linear_hash.proofs.SplitPages.{all_of_version}
 use Rattle.linear_hash.proofs.Refusals.{head_refused, load_refused, change_refused, no_refusal, head_has_room, load_has_room}
 use Rattle.linear_hash.proofs.SplitLemmas.{heads_read, split_head, chain_then, honest_later, midway_later, refilled_later, midway_split, is_grown}
@@ -29,12 +29,13 @@ returns-in_err-head g c =
     let exit = exit_is result.result c.in_err-head.field-0.0 result.ensures.1 in
     let small : c.args.space.now.file_end < 2 ^ 32 = omega (arith, c.if-prove.false) in
     record {
-      stages = told.reads.stages_only;
-      cause = cause_first _ _ exit _ _ told.cause;
+      stages = record {
+        only = told.reads.only.stages_only;
+        cause = cause_first _ _ exit _ _ told.reads.cause;
+      };
       answer = head_refused _ _ refl _ _ exit told.answer;
       grown = IfOk-from_err _ _ result.ensures.0;
-      ends = λ e. e;
-      may_end = λ may. IfOk-from_err _ _ result.ensures.0;
+      keeps = record { ends = λ e. e; may_end = λ may. IfOk-from_err _ _ result.ensures.0 };
       splits = λ honest. IfOk-from_err _ _ result.ensures.0;
       exact = λ honest p midway near. IfOk-from_err _ _ result.ensures.0;
       whole = λ honest p midway near damaged.
@@ -51,16 +52,17 @@ returns-in_err-pairs g c =
     let told = c.in_err-pairs.ensures in
     let result = c.from_residual-in_err-pairs in
     let exit = exit_is result.result c.in_err-pairs.field-0.0 result.ensures.1 in
-    let one = c.in_ok-head.ensures.reads in
+    let one = c.in_ok-head.ensures.reads.only in
     let small : c.args.space.now.file_end < 2 ^ 32 = omega (arith, c.if-prove.false) in
     record {
-      stages = stages_then st _ _ _ (g.met.S.PageStore.counts_now c.head_of.new.store)
-          one.stages_only told.reads.stages_only;
-      cause = cause_then _ _ exit _ _ _ one.stages_only.later told.cause;
+      stages = record {
+        only = stages_then st _ _ _ (g.met.S.PageStore.counts_now c.head_of.new.store)
+            one.stages_only told.reads.only.stages_only;
+        cause = cause_then _ _ exit _ _ _ one.stages_only.later told.reads.cause;
+      };
       answer = load_refused _ _ (ap (λ (s : StoreState). s.usable) one.same) _ _ exit told.answer;
       grown = IfOk-from_err _ _ result.ensures.0;
-      ends = λ e. e;
-      may_end = λ may. IfOk-from_err _ _ result.ensures.0;
+      keeps = record { ends = λ e. e; may_end = λ may. IfOk-from_err _ _ result.ensures.0 };
       splits = λ honest. IfOk-from_err _ _ result.ensures.0;
       exact = λ honest p midway near. IfOk-from_err _ _ result.ensures.0;
       whole = λ honest p midway near damaged.
@@ -73,27 +75,31 @@ returns-in_err-pairs g c =
           absurd (load_has_room _ _ told.answer (came _ _ exit NoRoom none));
     }
 
--- no bucket is opened
+-- no bucket is added
 pub returns-in_err-new_head : goal.returns-in_err-new_head
 returns-in_err-new_head g c =
     let st = g.S.PageStore in
     let told = c.in_err-new_head.ensures in
     let result = c.from_residual-in_err-new_head in
     let exit = exit_is result.result c.in_err-new_head.field-0.0 result.ensures.1 in
-    let one = c.in_ok-head.ensures.reads in
-    let two = c.in_ok-pairs.ensures.reads in
+    let one = c.in_ok-head.ensures.reads.only in
+    let two = c.in_ok-pairs.ensures.reads.only in
     let read = stages_then st _ _ _ (g.met.S.PageStore.counts_now c.head_of.new.store)
     one.stages_only two.stages_only in
     let small : c.args.space.now.file_end < 2 ^ 32 = omega (arith, c.if-prove.false) in
     record {
-      stages = stages_then st _ _ _ (g.met.S.PageStore.counts_now c.load_all.new.store)
-          read told.stages;
-      cause = cause_then _ _ exit _ _ _ read.later told.cause;
+      stages = record {
+        only = stages_then st _ _ _ (g.met.S.PageStore.counts_now c.load_all.new.store)
+            read told.stages.only;
+        cause = cause_then _ _ exit _ _ _ read.later told.stages.cause;
+      };
       answer = change_refused _ _ (ap (λ (s : StoreState). s.usable) read.state) _ _
           exit told.answer;
       grown = IfOk-from_err _ _ result.ensures.0;
-      ends = told.ends;
-      may_end = λ may. IfOk-from_err _ _ result.ensures.0;
+      keeps = record {
+        ends = told.keeps.ends;
+        may_end = λ may. IfOk-from_err _ _ result.ensures.0;
+      };
       splits = λ honest. IfOk-from_err _ _ result.ensures.0;
       exact = λ honest p midway near. IfOk-from_err _ _ result.ensures.0;
       whole = λ honest p midway near damaged.
@@ -125,23 +131,27 @@ returns-in_err-refill g c =
     let told = c.in_err-refill.ensures in
     let result = c.from_residual-in_err-refill in
     let exit = exit_is result.result c.in_err-refill.field-0.0 result.ensures.1 in
-    let one = c.in_ok-head.ensures.reads in
-    let two = c.in_ok-pairs.ensures.reads in
+    let one = c.in_ok-head.ensures.reads.only in
+    let two = c.in_ok-pairs.ensures.reads.only in
     let read = stages_then st _ _ _ (g.met.S.PageStore.counts_now c.head_of.new.store)
     one.stages_only two.stages_only in
-    let three = c.in_ok-new_head.ensures.stages in
+    let three = c.in_ok-new_head.ensures.stages.only in
     let so_far = stages_then st _ _ _
     (g.met.S.PageStore.counts_now c.load_all.new.store) read three in
     let small : c.args.space.now.file_end < 2 ^ 32 = omega (arith, c.if-prove.false) in
     record {
-      stages = stages_then st _ _ _ (g.met.S.PageStore.counts_now c.open_bucket.new.store)
-          so_far told.stages;
-      cause = cause_then _ _ exit _ _ _ so_far.later told.cause;
+      stages = record {
+        only = stages_then st _ _ _ (g.met.S.PageStore.counts_now c.add_bucket.new.store)
+            so_far told.stages.only;
+        cause = cause_then _ _ exit _ _ _ so_far.later told.stages.cause;
+      };
       answer = change_refused _ _ (ap (λ (s : StoreState). s.usable) so_far.state) _ _
           exit told.answer;
       grown = IfOk-from_err _ _ result.ensures.0;
-      ends = λ e. told.ends (c.in_ok-new_head.ensures.ends e);
-      may_end = λ may. IfOk-from_err _ _ result.ensures.0;
+      keeps = record {
+        ends = λ e. told.keeps.ends (c.in_ok-new_head.ensures.keeps.ends e);
+        may_end = λ may. IfOk-from_err _ _ result.ensures.0;
+      };
       splits = λ honest. IfOk-from_err _ _ result.ensures.0;
       exact = λ honest p midway near. IfOk-from_err _ _ result.ensures.0;
       whole = λ honest p midway near damaged.
@@ -152,7 +162,7 @@ returns-in_err-refill g c =
           c.in_ok-pairs.ensures.exact c.in_ok-new_head.ensures.exact
           c.in_ok-new_head.ensures.added (ap (map record_as) c.as_slice.ensures.value) in
           c.in_err-refill.ensures.whole
-          (c.in_ok-new_head.ensures.stages.honesty.1
+          (c.in_ok-new_head.ensures.stages.only.honesty.1
           (honest_later st _ _ _ _ p _ from one honest small midway _ two)) p again
           (came _ _ exit Damaged damaged);
       room = λ honest p midway near none.
@@ -163,10 +173,11 @@ returns-in_err-refill g c =
           c.in_ok-pairs.ensures.exact c.in_ok-new_head.ensures.exact
           c.in_ok-new_head.ensures.added (ap (map record_as) c.as_slice.ensures.value) in
           let full = c.in_err-refill.ensures.room
-          (c.in_ok-new_head.ensures.stages.honesty.1
+          (c.in_ok-new_head.ensures.stages.only.honesty.1
           (honest_later st _ _ _ _ p _ from one honest small midway _ two)) p again
           (came _ _ exit NoRoom none) in
-          let room = ap (λ (s : StoreState). s.capacity) (c.in_ok-new_head.ensures.stages.state)
+          let room = ap (λ (s : StoreState). s.capacity)
+          (c.in_ok-new_head.ensures.stages.only.state)
           ∙ ap (λ (s : StoreState). s.capacity) (two.same ∙ one.same) in
           omega (arith, full, room);
     }
@@ -175,49 +186,50 @@ returns-in_err-refill g c =
 pub returns : goal.returns
 returns g c =
     let st = g.S.PageStore in
-    let one = c.in_ok-head.ensures.reads in
-    let two = c.in_ok-pairs.ensures.reads in
+    let one = c.in_ok-head.ensures.reads.only in
+    let two = c.in_ok-pairs.ensures.reads.only in
     let read = stages_then st _ _ _ (g.met.S.PageStore.counts_now c.head_of.new.store)
     one.stages_only two.stages_only in
-    let three = c.in_ok-new_head.ensures.stages in
+    let three = c.in_ok-new_head.ensures.stages.only in
     let so_far = stages_then st _ _ _
     (g.met.S.PageStore.counts_now c.load_all.new.store) read three in
     let four = c.in_ok-refill.ensures in
-    let all = stages_then st _ _ _ (g.met.S.PageStore.counts_now c.open_bucket.new.store)
-    so_far four.stages in
+    let all = stages_then st _ _ _ (g.met.S.PageStore.counts_now c.add_bucket.new.store)
+    so_far four.stages.only in
     let small : c.args.space.now.file_end < 2 ^ 32 = omega (arith, c.if-prove.false) in
     record {
-      stages = all;
-      cause = cause_ok _ _ _ all.later;
+      stages = record { only = all; cause = cause_ok _ _ _ all.later };
       answer = no_refusal _ _;
       grown = is_grown _ _ _ c.in_ok-new_head.ensures.added c.grown-meta.ensures.grown refl refl;
-      ends = λ e. four.ends (c.in_ok-new_head.ensures.ends e);
-      may_end = λ may. four.may_end
-          (c.in_ok-new_head.ensures.may_end
-          (subst (λ (s : StoreState). MayEnd s c.args.space.now.file_end)
-          (sym (two.same ∙ one.same)) may));
+      keeps = record {
+        ends = λ e. four.keeps.ends (c.in_ok-new_head.ensures.keeps.ends e);
+        may_end = λ may. four.keeps.may_end
+            (c.in_ok-new_head.ensures.keeps.may_end
+            (subst (λ (s : StoreState). MayEnd s c.args.space.now.file_end)
+            (sym (two.same ∙ one.same)) may));
+      };
       splits = λ honest.
           let h1 = one.stages_only.honesty.1 honest in
           let h2 = two.stages_only.honesty.1 h1 in
           let same1 = same_said st c.args.store.now c.head_of.new.store one honest in
           let same2 = same_said st c.head_of.new.store c.load_all.new.store two h1 in
           let m = model_meta c.args.meta.now in
-          let opened = c.in_ok-new_head.ensures in
+          let extended = c.in_ok-new_head.ensures in
           let head = c.in_ok-head.head in
           let n = c.in_ok-new_head.new_head in
           let records = map record_as c.in_ok-pairs.pairs.items in
-          let at2 = body_at st c.open_bucket.new.store in
+          let at2 = body_at st c.add_bucket.new.store in
           let at3 = body_at st c.refill.new.store in
-          let middle = c.open_bucket.new.space in
+          let middle = c.add_bucket.new.space in
           let Start = MayEnd (st.state c.args.store.now) c.args.space.now.file_end in
-          let Now = MayEnd (st.state c.open_bucket.new.store) middle.file_end in
+          let Now = MayEnd (st.state c.add_bucket.new.store) middle.file_end in
           let added = subst (λ (rs : List Record).
           AreAdded at2 at3 Now middle c.refill.new.space (head_for m.level head n) rs)
           (ap (map record_as) c.as_slice.ensures.value)
           (subst (λ (l : ℕ).
           AreAdded at2 at3 Now middle c.refill.new.space (head_for l head n)
-          (map record_as c.as_slice.result.now)) (ap (λ (x : Meta). x.level) opened.added.rest)
-          (four.added (opened.stages.honesty.1 h2))) in
+          (map record_as c.as_slice.result.now)) (ap (λ (x : Meta). x.level) extended.added.rest)
+          (four.added (extended.stages.only.honesty.1 h2))) in
           record {
             head = head;
             taken = n;
@@ -230,14 +242,14 @@ returns g c =
             change = record {
               mid = at2;
               between = middle;
-              first = subst (λ (f : ℕ → Body). IsOpened f at2 m (model_meta c.open_bucket.new.meta)
-                  c.args.space.now middle head n) (same2 ∙ same1) (opened.opens h2);
-              second = all_under Now Start (λ may. opened.may_end
+              first = subst (λ (f : ℕ → Body). IsExtended f at2 m (model_meta c.add_bucket.new.meta)
+                  c.args.space.now middle head n) (same2 ∙ same1) (extended.extends h2);
+              second = all_under Now Start (λ may. extended.keeps.may_end
                   (subst (λ (s : StoreState). MayEnd s c.args.space.now.file_end)
                   (sym (two.same ∙ one.same)) may)) (head_for m.level head n) at2 middle records at3
                   c.refill.new.space added;
             };
-            grown = is_grown _ _ _ opened.added c.grown-meta.ensures.grown refl refl;
+            grown = is_grown _ _ _ extended.added c.grown-meta.ensures.grown refl refl;
           };
       exact = λ honest p midway near.
           let from = split_head _ _ _ p midway small _
@@ -250,7 +262,7 @@ returns g c =
           let now = c.in_ok-new_head.ensures.exact honest2 p
           (midway_later st _ _ _ _ p _ from one honest small midway _ two) from in
           let below = c.in_ok-refill.ensures.exact
-          (c.in_ok-new_head.ensures.stages.honesty.1 honest2) p again in
+          (c.in_ok-new_head.ensures.stages.only.honesty.1 honest2) p again in
           midway_split _ _ _ _ _ _ _ _ _ p _ _ midway c.in_ok-new_head.ensures.added now below
           c.grown-meta.ensures.grown refl refl;
       whole = λ honest p midway near damaged. cc;

@@ -31,9 +31,11 @@ returns-in_err-head g c =
     let result = c.from_residual in
     let exit = exit_is result.result c.in_err-head.field-0.0 result.ensures.1 in
     record {
-      stages = told.reads.stages_only;
-      few = omega (arith, ap (λ (s : StoreState). length s.staged) told.reads.same);
-      cause = cause_first _ _ exit _ _ told.cause;
+      stages = record {
+        only = told.reads.only.stages_only;
+        cause = cause_first _ _ exit _ _ told.reads.cause;
+      };
+      few = omega (arith, ap (λ (s : StoreState). length s.staged) told.reads.only.same);
       answer = head_of_remove _ _ refl _ _ exit _ _ told.answer;
       end = refl;
       keeps = record { ends = λ e. e; may_end = λ may. IfOk-from_err _ _ result.ensures.0 };
@@ -44,7 +46,7 @@ returns-in_err-head g c =
           (came _ _ exit Damaged damaged);
       sparing = λ honest p mid near. (
         head_of_remove _ _ refl _ _ exit _ _ told.answer,
-        omega (arith, ap (λ (s : StoreState). length s.staged) told.reads.same),
+        omega (arith, ap (λ (s : StoreState). length s.staged) told.reads.only.same),
       );
     }
 
@@ -57,7 +59,7 @@ module _ (g : Over) (c : After-take_out g) (honest : g.S.PageStore.honest c.args
 
   here : IsMidway (body_at g.S.PageStore c.head_of.new.store) (model_meta c.args.meta.now)
       c.args.space.now p
-  here = midway_read g.S.PageStore _ _ _ _ p c.in_ok-head.ensures.reads honest mid
+  here = midway_read g.S.PageStore _ _ _ _ p c.in_ok-head.ensures.reads.only honest mid
 
   chain_is : IsPlaced (model_version c.args.meta.now.version)
       (body_at g.S.PageStore c.head_of.new.store) c.args.space.now c.in_ok-head.head
@@ -74,15 +76,17 @@ module _ (g : Over) (c : After-take_out g) (honest : g.S.PageStore.honest c.args
 -- the key is taken out, or is not
 pub returns : goal.returns
 returns g c =
-    let one = c.in_ok-head.ensures.reads in
+    let one = c.in_ok-head.ensures.reads.only in
     let told = c.take_out.ensures in
     let h1 = one.stages_only.honesty.1 in
     let used : c.args.space.now.file_end < 2 ^ 32 = omega (arith, c.if-prove.false) in
     record {
-      stages = stages_then g.S.PageStore _ _ _ (g.met.S.PageStore.counts_now c.head_of.new.store)
-          one.stages_only told.stages;
+      stages = record {
+        only = stages_then g.S.PageStore _ _ _ (g.met.S.PageStore.counts_now c.head_of.new.store)
+            one.stages_only told.stages.only;
+        cause = cause_last _ _ _ _ one.stages_only.later told.stages.cause;
+      };
       few = omega (arith, told.few, ap (λ (s : StoreState). length s.staged) one.same);
-      cause = cause_last _ _ _ _ one.stages_only.later told.cause;
       answer = subst (λ (s : StoreState). IsRemoveAnswer g.S.PageStore.reserved
           (pages_for (model_version c.args.meta.now.version)) s c.take_out.result)
           one.same told.answer;

@@ -40,9 +40,11 @@ returns-in_err-head g c =
     let result = c.from_residual in
     let exit = exit_is result.result c.in_err-head.field-0.0 result.ensures.1 in
     record {
-      stages = told.reads.stages_only;
-      few = omega (arith, ap (λ (s : StoreState). length s.staged) told.reads.same);
-      cause = cause_first _ _ exit _ _ told.cause;
+      stages = record {
+        only = told.reads.only.stages_only;
+        cause = cause_first _ _ exit _ _ told.reads.cause;
+      };
+      few = omega (arith, ap (λ (s : StoreState). length s.staged) told.reads.only.same);
       answer = record {
         change = head_refused _ _ refl _ _ exit told.answer;
         memory = λ is. absurd
@@ -57,7 +59,7 @@ returns-in_err-head g c =
           (came _ _ exit Damaged damaged);
       sparing = λ honest p mid was near. (
         λ is. absurd (head_no_memory {T = ℕ} _ told.answer.only (came _ _ exit Memory is)),
-        omega (arith, ap (λ (s : StoreState). length s.staged) told.reads.same),
+        omega (arith, ap (λ (s : StoreState). length s.staged) told.reads.only.same),
       );
     }
 
@@ -69,15 +71,17 @@ returns-in_err-take_out g c =
     ≡ 1 + pages_for (model_version c.args.meta.now.version) =
     ap (λ (b : Bool). cond {A = ℕ} b (1 + pages_for (model_version c.args.meta.now.version)) 0)
     c.if-was_there.true in
-    let one = c.in_ok-head.ensures.reads in
+    let one = c.in_ok-head.ensures.reads.only in
     let told = c.in_err-take_out.ensures in
     let result = c.from_residual-in_err-take_out in
     let exit = exit_is result.result c.in_err-take_out.field-0.0 result.ensures.1 in
     record {
-      stages = stages_then g.S.PageStore _ _ _ (g.met.S.PageStore.counts_now c.head_of.new.store)
-          one.stages_only told.stages;
+      stages = record {
+        only = stages_then g.S.PageStore _ _ _ (g.met.S.PageStore.counts_now c.head_of.new.store)
+            one.stages_only told.stages.only;
+        cause = cause_then _ _ exit _ _ _ one.stages_only.later told.stages.cause;
+      };
       few = omega (arith, told.few, removes, ap (λ (s : StoreState). length s.staged) one.same);
-      cause = cause_then _ _ exit _ _ _ one.stages_only.later told.cause;
       answer = record {
         change = remove_refused _ _ (ap (λ (s : StoreState). s.usable) one.same) _ _
             exit _ _ told.answer;
@@ -130,12 +134,12 @@ module _ (g : Over) (c : After-put g) where
   -- up to the put
   stages_so_far : StagesOnly g.S.PageStore c.args.store.now c.if-was_there.store
   stages_so_far =
-      let reads = c.in_ok-head.ensures.reads.stages_only in
+      let reads = c.in_ok-head.ensures.reads.only.stages_only in
       elim c.if-was_there.branch [
         | then-was_there+in_ok-take_out w ↦
             subst (StagesOnly g.S.PageStore c.args.store.now) (sym w.store-is)
             (stages_then g.S.PageStore _ _ _ (g.met.S.PageStore.counts_now c.head_of.new.store)
-            reads w.in_ok-take_out.ensures.stages)
+            reads w.in_ok-take_out.ensures.stages.only)
         | else-was_there w ↦ subst (StagesOnly g.S.PageStore c.args.store.now)
             (sym w.store-is) reads
       ]
@@ -144,7 +148,7 @@ module _ (g : Over) (c : After-put g) where
       ≤ length (g.S.PageStore.state c.args.store.now).staged
       + removal_pages (model_version c.args.meta.now.version) c.args.was_there
   few_so_far =
-      let read = ap (λ (s : StoreState). length s.staged) c.in_ok-head.ensures.reads.same in
+      let read = ap (λ (s : StoreState). length s.staged) c.in_ok-head.ensures.reads.only.same in
       elim c.if-was_there.branch [
         | then-was_there+in_ok-take_out w ↦
             let is = ap (λ s. length (g.S.PageStore.state s).staged) w.store-is in
@@ -167,7 +171,7 @@ module _ (g : Over) (c : After-put g) where
   may_end_so_far : MayEnd (g.S.PageStore.state c.args.store.now) c.args.space.now.file_end
       → MayEnd (g.S.PageStore.state c.if-was_there.store) c.if-was_there.space.file_end
   may_end_so_far may =
-      let read = may_end_read g.S.PageStore _ _ _ c.in_ok-head.ensures.reads may in
+      let read = may_end_read g.S.PageStore _ _ _ c.in_ok-head.ensures.reads.only may in
       elim c.if-was_there.branch [
         | then-was_there+in_ok-take_out w ↦
             may_end_same g.S.PageStore _ _ _ _ w.store-is w.space-is
@@ -211,7 +215,7 @@ module _ (g : Over) (c : After-put g) where
     | then-was_there+in_ok-take_out w ↦
         was_out g.S.PageStore _ _ _ _ _ _ _ _ _ _ w.store-is w.space-is w.if-was_there.true
         (w.in_ok-take_out.ensures.taken_out
-        (c.in_ok-head.ensures.reads.stages_only.honesty.1 honest))
+        (c.in_ok-head.ensures.reads.only.stages_only.honesty.1 honest))
     | else-was_there w ↦
         was_not g.S.PageStore _ _ _ _ _ _ _ _ _ _ w.store-is w.space-is w.if-was_there.false
         refl refl
@@ -230,8 +234,8 @@ module _ (g : Over) (c : After-put g) where
     removed : IsMidway (body_at g.S.PageStore c.if-was_there.store) (model_meta c.args.meta.now)
         c.if-was_there.space (delete p c.args.key.now)
     removed =
-        let h1 = c.in_ok-head.ensures.reads.stages_only.honesty.1 honest in
-        let here = midway_read g.S.PageStore _ _ _ _ p c.in_ok-head.ensures.reads honest mid in
+        let h1 = c.in_ok-head.ensures.reads.only.stages_only.honesty.1 honest in
+        let here = midway_read g.S.PageStore _ _ _ _ p c.in_ok-head.ensures.reads.only honest mid in
         elim c.if-was_there.branch [
           | then-was_there+in_ok-take_out w ↦
               let placed = midway_chain _ _ _ p here small c.args.key.now c.bucket.result bucket
@@ -270,9 +274,9 @@ module _ (g : Over) (c : After-put g) where
         → length (g.S.PageStore.state c.if-was_there.store).staged
         ≤ length (g.S.PageStore.state c.args.store.now).staged + 2
     spare_so_far near =
-        let read = ap (λ (s : StoreState). length s.staged) c.in_ok-head.ensures.reads.same in
-        let h1 = c.in_ok-head.ensures.reads.stages_only.honesty.1 honest in
-        let here = midway_read g.S.PageStore _ _ _ _ p c.in_ok-head.ensures.reads honest mid in
+        let read = ap (λ (s : StoreState). length s.staged) c.in_ok-head.ensures.reads.only.same in
+        let h1 = c.in_ok-head.ensures.reads.only.stages_only.honesty.1 honest in
+        let here = midway_read g.S.PageStore _ _ _ _ p c.in_ok-head.ensures.reads.only honest mid in
         elim c.if-was_there.branch [
           | then-was_there+in_ok-take_out w ↦
               let is = ap (λ s. length (g.S.PageStore.state s).staged) w.store-is in
@@ -293,10 +297,12 @@ returns g c =
     let told = c.put.ensures in
     let h1 = so_far.honesty.1 in
     record {
-      stages = stages_then g.S.PageStore _ _ _ (g.met.S.PageStore.counts_now c.if-was_there.store)
-          so_far told.stages;
+      stages = record {
+        only = stages_then g.S.PageStore _ _ _ (g.met.S.PageStore.counts_now c.if-was_there.store)
+            so_far told.stages.only;
+        cause = cause_last _ _ _ _ so_far.later told.stages.cause;
+      };
       few = omega (arith, told.few, few_so_far g c);
-      cause = cause_last _ _ _ _ so_far.later told.cause;
       answer = record {
         change = put_answers _ _ _ _ _ _ (ap (λ (s : StoreState). s.usable) so_far.state)
             told.answer;
@@ -309,14 +315,14 @@ returns g c =
         );
       };
       keeps = record {
-        ends = λ e. told.ends (ends_so_far g c e);
-        may_end = λ may. told.may_end (may_end_so_far g c may);
+        ends = λ e. told.keeps.ends (ends_so_far g c e);
+        may_end = λ may. told.keeps.may_end (may_end_so_far g c may);
       };
       put_in = λ honest.
           on_ok_weaker c.put.result (λ added.
           in_bucket _ _ (model_meta c.args.meta.now) c.args.key.now c.bucket.result
           c.in_ok-head.head (put_from g c) (bucket g c) (c.in_ok-head.ensures.entry honest)
-          (same_said g.S.PageStore _ _ c.in_ok-head.ensures.reads honest)
+          (same_said g.S.PageStore _ _ c.in_ok-head.ensures.reads.only honest)
           (record {
             mid = body_at g.S.PageStore c.if-was_there.store;
             between = c.if-was_there.space;

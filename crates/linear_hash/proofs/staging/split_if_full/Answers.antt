@@ -33,8 +33,10 @@ returns-in_err-split_bucket g c =
     let result = c.from_residual in
     let exit = exit_is result.result c.in_err-split_bucket.field-0.0 result.ensures.1 in
     record {
-      stages = told.stages;
-      cause = cause_first _ _ exit _ _ told.cause;
+      stages = record {
+        only = told.stages.only;
+        cause = cause_first _ _ exit _ _ told.stages.cause;
+      };
       answer = change_refused _ _ refl _ _ exit told.answer;
       memory = λ is.
           subst (λ (b : ℕ). 8 * b < c.args.meta.now.pairs) c.buckets.ensures
@@ -44,7 +46,10 @@ returns-in_err-split_bucket g c =
           let full = subst (λ (b : ℕ). 8 * b < c.args.meta.now.pairs) c.buckets.ensures
           c.if-meta-buckets.true in
           absurd (omega (arith, few, full));
-      keeps = record { ends = told.ends; may_end = λ may. IfOk-from_err _ _ result.ensures.0 };
+      keeps = record {
+        ends = told.keeps.ends;
+        may_end = λ may. IfOk-from_err _ _ result.ensures.0;
+      };
       splits = λ honest. IfOk-from_err _ _ result.ensures.0;
       exact = λ honest p mid near counted. (
         IfOk-from_err _ _ result.ensures.0,
@@ -63,11 +68,10 @@ returns-in_err-split_bucket g c =
 
 -- the bucket is split
 pub returns-in_ok-split_bucket-clause-stages : goal.returns-in_ok-split_bucket-clause-stages
-returns-in_ok-split_bucket-clause-stages g c = c.in_ok-split_bucket.ensures.stages
-
-pub returns-in_ok-split_bucket-clause-cause : goal.returns-in_ok-split_bucket-clause-cause
-returns-in_ok-split_bucket-clause-cause g c =
-    cause_ok _ _ _ c.in_ok-split_bucket.ensures.cause.later
+returns-in_ok-split_bucket-clause-stages g c = record {
+  only = c.in_ok-split_bucket.ensures.stages.only;
+  cause = cause_ok _ _ _ c.in_ok-split_bucket.ensures.stages.cause.later;
+}
 
 pub returns-in_ok-split_bucket-clause-answer : goal.returns-in_ok-split_bucket-clause-answer
 returns-in_ok-split_bucket-clause-answer g c = no_refusal _ _
@@ -96,8 +100,8 @@ returns-in_ok-split_bucket-clause-still g c few =
 
 pub returns-in_ok-split_bucket-clause-keeps : goal.returns-in_ok-split_bucket-clause-keeps
 returns-in_ok-split_bucket-clause-keeps g c = record {
-  ends = c.in_ok-split_bucket.ensures.ends;
-  may_end = c.in_ok-split_bucket.ensures.may_end;
+  ends = c.in_ok-split_bucket.ensures.keeps.ends;
+  may_end = c.in_ok-split_bucket.ensures.keeps.may_end;
 }
 
 pub returns-in_ok-split_bucket-clause-whole : goal.returns-in_ok-split_bucket-clause-whole
@@ -123,14 +127,12 @@ returns-in_ok-split_bucket-clause-exact g c honest p mid near counted =
 
 -- there are few pairs
 pub returns-else-meta-buckets-clause-stages : goal.returns-else-meta-buckets-clause-stages
-returns-else-meta-buckets-clause-stages g c =
-    (reads_none g.S.PageStore c.args.store.now
-    (g.met.S.PageStore.only_now c.args.store.now)).stages_only
-
-pub returns-else-meta-buckets-clause-cause : goal.returns-else-meta-buckets-clause-cause
-returns-else-meta-buckets-clause-cause g c =
-    cause_ok _ _ _ (reads_none g.S.PageStore c.args.store.now
-    (g.met.S.PageStore.only_now c.args.store.now)).stages_only.later
+returns-else-meta-buckets-clause-stages g c = record {
+  only = (reads_none g.S.PageStore c.args.store.now
+      (g.met.S.PageStore.only_now c.args.store.now)).stages_only;
+  cause = cause_ok _ _ _ (reads_none g.S.PageStore c.args.store.now
+      (g.met.S.PageStore.only_now c.args.store.now)).stages_only.later;
+}
 
 pub returns-else-meta-buckets-clause-answer : goal.returns-else-meta-buckets-clause-answer
 returns-else-meta-buckets-clause-answer g c = no_refusal _ _

@@ -34,8 +34,10 @@ returns-in_err-remove_key g c =
     let result = c.from_residual in
     let exit = exit_is result.result c.in_err-remove_key.field-0.0 result.ensures.1 in
     record {
-      stages = told.stages;
-      cause = cause_first _ _ exit _ _ told.cause;
+      stages = record {
+        only = told.stages.only;
+        cause = cause_first _ _ exit _ _ told.stages.cause;
+      };
       few = omega (arith, told.few, ap (λ (ps : Pages). length ps) c.requires.idle);
       answer = record {
         change = remove_refused _ _ refl _ _ exit _ _ told.answer;
@@ -73,18 +75,18 @@ returns-in_err-remove_key g c =
 
 -- the meta page is staged last
 pub returns-clause-stages : goal.returns-clause-stages
-returns-clause-stages g c = stages_then g.S.PageStore _ _ _
-    (g.met.S.PageStore.counts_now c.remove_key.new.store) c.in_ok-remove_key.ensures.stages
-    c.stage_meta.ensures.stages
-
-pub returns-clause-cause : goal.returns-clause-cause
-returns-clause-cause g c = cause_last _ _ _ _ c.in_ok-remove_key.ensures.cause.later
-    c.stage_meta.ensures.cause
+returns-clause-stages g c = record {
+  only = stages_then g.S.PageStore _ _ _
+      (g.met.S.PageStore.counts_now c.remove_key.new.store) c.in_ok-remove_key.ensures.stages.only
+      c.stage_meta.ensures.stages.only;
+  cause = cause_last _ _ _ _ c.in_ok-remove_key.ensures.stages.cause.later
+      c.stage_meta.ensures.stages.cause;
+}
 
 pub returns-clause-answer : goal.returns-clause-answer
 returns-clause-answer g c = record {
   change = stage_answers _ _ _ _ _
-      (ap (λ (s : StoreState). s.usable) c.in_ok-remove_key.ensures.stages.state)
+      (ap (λ (s : StoreState). s.usable) c.in_ok-remove_key.ensures.stages.only.state)
       c.stage_meta.ensures.answer;
   memory = λ is. second_version (model_version c.args.meta.now.version) _ g.S.PageStore.reserves
       (omega (
@@ -131,7 +133,7 @@ returns-clause-may_commit g c =
     let ends = subst (λ (f : FreeState). MayEnd (st.state c.args.store.now) f.file_end) (sym start)
     (idle_end (st.state c.args.store.now) c.requires.idle) in
     new_end_later _ _ _ c.stage_meta.result
-    (ap (λ (s : StoreState). s.end) c.in_ok-remove_key.ensures.stages.state)
+    (ap (λ (s : StoreState). s.end) c.in_ok-remove_key.ensures.stages.only.state)
     (c.stage_meta.ensures.may_commit (c.in_ok-remove_key.ensures.keeps.may_end ends))
 
 -- what is kept of the meta page
@@ -155,7 +157,7 @@ returns-clause-exact g c honest p table was =
     let mid = midway_pairs _ _ _ q pairs (c.in_ok-remove_key.ensures.exact honest p start) in
     let counted = ap (λ (m : Meta). m.pairs - 1) table.meta_is
     ∙ sym (deleted_count p c.args.key.now table.good.sound was) in
-    let h1 = c.in_ok-remove_key.ensures.stages.honesty.1 honest in (
+    let h1 = c.in_ok-remove_key.ensures.stages.only.honesty.1 honest in (
       staged_ok c.stage_meta.result
           (λ page end last. staged_at_last _ _ _ q mid counted _ _ end c.stage_meta.ensures.meta
           last page (c.stage_meta.ensures.others h1)) (c.stage_meta.ensures.page h1)
@@ -167,7 +169,7 @@ returns-clause-exact g c honest p table was =
 pub returns-clause-deleted : goal.returns-clause-deleted
 returns-clause-deleted g c honest =
     let before = model_meta c.args.meta.now in
-    let h1 = c.in_ok-remove_key.ensures.stages.honesty.1 honest in
+    let h1 = c.in_ok-remove_key.ensures.stages.only.honesty.1 honest in
     let start = c.space_of-space.ensures ∙ ap (space_in before) c.end.ensures in
     let out = subst (λ (f : FreeState). TookOut (body_at g.S.PageStore c.args.store.now) before f
     c.args.key.now (body_at g.S.PageStore c.remove_key.new.store) c.remove_key.new.space) start

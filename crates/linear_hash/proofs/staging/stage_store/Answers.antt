@@ -55,8 +55,10 @@ returns-in_err-replace_pair g c =
     let result = c.from_residual in
     let exit = exit_is result.result c.in_err-replace_pair.field-0.0 result.ensures.1 in
     record {
-      stages = told.stages;
-      cause = cause_first _ _ exit _ _ told.cause;
+      stages = record {
+        only = told.stages.only;
+        cause = cause_first _ _ exit _ _ told.stages.cause;
+      };
       answer = change_refused _ _ refl _ _ exit told.answer.change;
       memory = λ is. inr (may_need (model_version c.args.meta.now.version) c.args.was_there
           (c.args.key.now, c.args.content.now) g.S.PageStore.reserved g.S.PageStore.reserves
@@ -104,14 +106,16 @@ returns-in_err-replace_pair g c =
 -- no bucket is split
 pub returns-in_err-split_if_full : goal.returns-in_err-split_if_full
 returns-in_err-split_if_full g c =
-    let one = c.in_ok-replace_pair.ensures.stages in
+    let one = c.in_ok-replace_pair.ensures.stages.only in
     let told = c.in_err-split_if_full.ensures in
     let result = c.from_residual-in_err-split_if_full in
     let exit = exit_is result.result c.in_err-split_if_full.field-0.0 result.ensures.1 in
     record {
-      stages = stages_then g.S.PageStore _ _ _
-          (g.met.S.PageStore.counts_now c.replace_pair.new.store) one told.stages;
-      cause = cause_then _ _ exit _ _ _ one.later told.cause;
+      stages = record {
+        only = stages_then g.S.PageStore _ _ _
+            (g.met.S.PageStore.counts_now c.replace_pair.new.store) one told.stages.only;
+        cause = cause_then _ _ exit _ _ _ one.later told.stages.cause;
+      };
       answer = change_refused _ _ (ap (λ (s : StoreState). s.usable) one.state) _ _
           exit told.answer;
       memory = λ is. inl (omega (
@@ -135,10 +139,10 @@ returns-in_err-split_if_full g c =
           (table_midway _ _ _ p table) in
           let mid = midway_pairs _ _ _ (replace p pair) _
           (c.in_ok-replace_pair.ensures.exact honest p start was) in
-          let h1 = c.in_ok-replace_pair.ensures.stages.honesty.1 honest in
+          let h1 = c.in_ok-replace_pair.ensures.stages.only.honesty.1 honest in
           let end = subst (λ (n : ℕ).
           length (chain_at (replace p pair) (replace p pair).shape.split) ≤ n)
-          (sym (ap (λ (st : StoreState). st.end) c.in_ok-replace_pair.ensures.stages.state))
+          (sym (ap (λ (st : StoreState). st.end) c.in_ok-replace_pair.ensures.stages.only.state))
           (split_few _ _ _ p pair table) in
           record {
             whole = λ damaged.
@@ -154,7 +158,7 @@ returns-in_err-split_if_full g c =
                   most,
                   ap (λ (q : Placement). q.space.end) (where_full p pair),
                   ap (λ (st : StoreState). st.capacity)
-                      c.in_ok-replace_pair.ensures.stages.state,
+                      c.in_ok-replace_pair.ensures.stages.only.state,
                 );
           };
     }
@@ -163,16 +167,16 @@ returns-in_err-split_if_full g c =
 staged_so_far : (g : Over) (c : After-stage_meta g)
     → StagesOnly g.S.PageStore c.args.store.now c.split_if_full.new.store
 staged_so_far g c = stages_then g.S.PageStore _ _ _
-    (g.met.S.PageStore.counts_now c.replace_pair.new.store) c.in_ok-replace_pair.ensures.stages
-    c.in_ok-split_if_full.ensures.stages
+    (g.met.S.PageStore.counts_now c.replace_pair.new.store) c.in_ok-replace_pair.ensures.stages.only
+    c.in_ok-split_if_full.ensures.stages.only
 
 pub returns-clause-stages : goal.returns-clause-stages
-returns-clause-stages g c = stages_then g.S.PageStore _ _ _
-    (g.met.S.PageStore.counts_now c.split_if_full.new.store) (staged_so_far g c)
-    c.stage_meta.ensures.stages
-
-pub returns-clause-cause : goal.returns-clause-cause
-returns-clause-cause g c = cause_last _ _ _ _ (staged_so_far g c).later c.stage_meta.ensures.cause
+returns-clause-stages g c = record {
+  only = stages_then g.S.PageStore _ _ _
+      (g.met.S.PageStore.counts_now c.split_if_full.new.store) (staged_so_far g c)
+      c.stage_meta.ensures.stages.only;
+  cause = cause_last _ _ _ _ (staged_so_far g c).later c.stage_meta.ensures.stages.cause;
+}
 
 pub returns-clause-answer : goal.returns-clause-answer
 returns-clause-answer g c = stage_answers _ _ _ _ _
@@ -262,16 +266,16 @@ returns-clause-exact g c honest p table may was =
     (table_midway _ _ _ p table) in
     let mid = c.in_ok-replace_pair.ensures.exact honest p start was in
     let end = subst (λ (n : ℕ). length (chain_at q q.shape.split) ≤ n)
-    (sym (ap (λ (st : StoreState). st.end) c.in_ok-replace_pair.ensures.stages.state))
+    (sym (ap (λ (st : StoreState). st.end) c.in_ok-replace_pair.ensures.stages.only.state))
     (split_few _ _ _ p pair table) in
-    let h1 = c.in_ok-replace_pair.ensures.stages.honesty.1 honest in
+    let h1 = c.in_ok-replace_pair.ensures.stages.only.honesty.1 honest in
     let counted : c.args.meta.now.pairs + c.added.result ≡ length (pairs_of q) =
     counted_more p pair c.args.was_there _ _ table.good.sound
     (allowed_in c.args.meta.now _ p pair table c.requires.allowed) was
     (ap (λ (m : Meta). m.pairs) table.meta_is) c.added.ensures in
     let split = (c.in_ok-split_if_full.ensures.exact h1 q (midway_pairs _ _ _ q _ mid) end
     counted).0 in
-    let h2 = c.in_ok-split_if_full.ensures.stages.honesty.1 h1 in
+    let h2 = c.in_ok-split_if_full.ensures.stages.only.honesty.1 h1 in
     let all : c.split_if_full.new.meta.pairs ≡ length (pairs_of (split_where_full q)) =
     c.in_ok-split_if_full.ensures.kept.pairs ∙ counted ∙ sym (full_count q mid.sound) in
     subst (λ (r : Placement). IfOk c.stage_meta.result
@@ -298,8 +302,8 @@ returns-clause-stored g c honest =
     let grown = model_meta c.split_if_full.new.meta in
     let after = model_meta c.stage_meta.new.meta in
     let pairs = c.args.meta.now.pairs + c.added.result in
-    let h1 = replaced.stages.honesty.1 honest in
-    let h2 = split.stages.honesty.1 h1 in
+    let h1 = replaced.stages.only.honesty.1 honest in
+    let h2 = split.stages.only.honesty.1 h1 in
     let start = c.space_of-space.ensures ∙ ap (space_in before) c.end.ensures in
     let ends = subst (λ (f : FreeState). MayEnd (st.state c.args.store.now) f.file_end) (sym start)
     (idle_end (st.state c.args.store.now) c.requires.idle) in

@@ -1,4 +1,4 @@
-use Rattle.page_model.proofs.Openings.{meta_rewrites}
+use Rattle.page_model.proofs.Extensions.{meta_rewrites}
 use Rattle.page_model.proofs.body_laws.meta_rewrites.Goals as goal
 
 pub returns : goal.returns

@@ -28,7 +28,7 @@ returns-in-Some-clause-pages g c honest =
     same_file (overlaid pages new) (overlaid pages home) c.args.new_end
     (λ n ge lt. overlaid-over pages home new n
     (λ apart. c.in_ok-arm_next.ensures.pages honest n ge
-    (omega (arith, lt, c.in-Some.ensures.some.behind, c.max-least.ensures))))
+    (omega (arith, lt, c.in-Some.ensures.some.fits.behind, c.max-least.ensures))))
     ∙ new_pages (file_pages home c.args.old_end) home c.args.old_end refl c.args.new_end pages pages
     refl c.requires.grown
 
@@ -36,17 +36,17 @@ pub returns-in_err-arm-clause-any_moment : goal.returns-in_err-arm-clause-any_mo
 returns-in_err-arm-clause-any_moment g c honest =
     behind g.D.SectorDev c.args.dev.now c.arm.new.dev c.args.old_end c.args.new_end
     (bytes_of c.args.waiting.now) (bytes_of c.args.pages.now) c.requires.grown
-    c.bring_home.new.dev c.bring_home.ensures.size (c.bring_home.ensures.any_moment honest)
+    c.bring_home.new.dev c.bring_home.ensures.device.size (c.bring_home.ensures.any_moment honest)
     (c.in_ok-bring_home.ensures.pages honest)
-    (c.arm.ensures.any_moment (c.bring_home.ensures.honesty.1 honest))
+    (c.arm.ensures.any_moment (c.bring_home.ensures.device.honesty.1 honest))
 
 pub returns-clause-any_moment : goal.returns-clause-any_moment
 returns-clause-any_moment g c honest =
     behind g.D.SectorDev c.args.dev.now c.arm.new.dev c.args.old_end c.args.new_end
     (bytes_of c.args.waiting.now) (bytes_of c.args.pages.now) c.requires.grown
-    c.bring_home.new.dev c.bring_home.ensures.size (c.bring_home.ensures.any_moment honest)
+    c.bring_home.new.dev c.bring_home.ensures.device.size (c.bring_home.ensures.any_moment honest)
     (c.in_ok-bring_home.ensures.pages honest)
-    (c.arm.ensures.any_moment (c.bring_home.ensures.honesty.1 honest))
+    (c.arm.ensures.any_moment (c.bring_home.ensures.device.honesty.1 honest))
 
 pub returns-clause-pages : goal.returns-clause-pages
 returns-clause-pages g c honest =
@@ -55,7 +55,7 @@ returns-clause-pages g c honest =
     let home = overlaid (bytes_of c.args.waiting.now) (page_at (dev.seen c.args.dev.now)) in
     same_new (dev.seen c.bring_home.new.dev) (dev.seen c.arm.new.dev) pages c.args.new_end
     c.max-least.result (omega (arith, c.max-least.ensures))
-    (c.in_ok-arm.ensures.pages (c.bring_home.ensures.honesty.1 honest))
+    (c.in_ok-arm.ensures.pages (c.bring_home.ensures.device.honesty.1 honest))
     ∙ new_pages (file_pages home c.args.old_end) (page_at (dev.seen c.bring_home.new.dev))
     c.args.old_end (c.in_ok-bring_home.ensures.pages honest) c.args.new_end pages pages refl
     c.requires.grown

@@ -15,24 +15,30 @@ arm_grown-requires-clause-grown g c =
     let count = c.changed_in-changed.result in
     grows c.args.pages.now c.split_at.result.0.now c.split_at.result.1.now count c.args.old_end
     c.args.new_end c.split_at.ensures.by_index.0 c.split_at.ensures.front_len c.if-changed-gt0.true
-    c.requires.in_order (c.changed_in-changed.ensures.below c.if-changed-gt0.true)
+    c.requires.pages.in_order (c.changed_in-changed.ensures.below c.if-changed-gt0.true)
     c.changed_in-changed.ensures.from
     (omega (arith, c.if-pages-changed.true, c.least_new.ensures, c.split_at.ensures.back_len))
 
 pub arm_grown-requires-clause-changed : goal.arm_grown-requires-clause-changed
 arm_grown-requires-clause-changed g c =
     let count = c.changed_in-changed.result in
-    first_is c.args.pages.now c.split_at.result.0.now c.split_at.result.1.now count c.args.old_end
-    c.args.new_end c.split_at.ensures.by_index.0 c.split_at.ensures.front_len c.if-changed-gt0.true
-    c.requires.in_order (c.changed_in-changed.ensures.below c.if-changed-gt0.true)
-    c.changed_in-changed.ensures.from
+    record {
+      some = omega (arith, c.if-changed-gt0.true, c.split_at.ensures.front_len);
+      least = c.requires.waiting.least;
+      in_order =
+          first_is c.args.pages.now c.split_at.result.0.now c.split_at.result.1.now count
+          c.args.old_end c.args.new_end c.split_at.ensures.by_index.0
+          c.split_at.ensures.front_len c.if-changed-gt0.true c.requires.pages.in_order
+          (c.changed_in-changed.ensures.below c.if-changed-gt0.true)
+          c.changed_in-changed.ensures.from;
+    }
 
 pub arm_grown-requires-clause-new : goal.arm_grown-requires-clause-new
 arm_grown-requires-clause-new g c =
     let count = c.changed_in-changed.result in
     rest_is c.args.pages.now c.split_at.result.0.now c.split_at.result.1.now count c.args.old_end
     c.args.new_end c.split_at.ensures.by_index.0 c.split_at.ensures.front_len c.if-changed-gt0.true
-    c.requires.in_order (c.changed_in-changed.ensures.below c.if-changed-gt0.true)
+    c.requires.pages.in_order (c.changed_in-changed.ensures.below c.if-changed-gt0.true)
     c.changed_in-changed.ensures.from
 
 pub returns-in_err-arm_grown-clause-any_moment : goal.returns-in_err-arm_grown-clause-any_moment
@@ -46,16 +52,17 @@ returns-in_err-arm_grown-clause-any_moment g c honest =
     let below = c.changed_in-changed.ensures.below c.if-changed-gt0.true in
     let low = first_is pages first rest count c.args.old_end c.args.new_end
     c.split_at.ensures.by_index.0 c.split_at.ensures.front_len c.if-changed-gt0.true
-    c.requires.in_order below c.changed_in-changed.ensures.from in
+    c.requires.pages.in_order below c.changed_in-changed.ensures.from in
     let high = rest_is pages first rest count c.args.old_end c.args.new_end
     c.split_at.ensures.by_index.0 c.split_at.ensures.front_len c.if-changed-gt0.true
-    c.requires.in_order below c.changed_in-changed.ensures.from in
+    c.requires.pages.in_order below c.changed_in-changed.ensures.from in
     let both = bytes_are pages first rest count c.args.old_end c.args.new_end
     c.split_at.ensures.by_index.0 c.split_at.ensures.front_len c.if-changed-gt0.true
-    c.requires.in_order below c.changed_in-changed.ensures.from in
+    c.requires.pages.in_order below c.changed_in-changed.ensures.from in
     behind dev c.args.dev.now c.arm_grown.new.dev c.args.old_end c.args.new_end
-    (bytes_of c.args.waiting.now) (bytes_of pages) c.requires.grown mid c.bring_home.ensures.size
-    (c.bring_home.ensures.any_moment honest) (c.in_ok-bring_home.ensures.pages honest)
+    (bytes_of c.args.waiting.now) (bytes_of pages) c.requires.grown mid
+    c.bring_home.ensures.device.size (c.bring_home.ensures.any_moment honest)
+    (c.in_ok-bring_home.ensures.pages honest)
     (subst (λ (after : Pages). LeavesOnly dev.moment dev.left_since mid c.arm_grown.new.dev
     (λ image. IsEither (file_pages (page_at (dev.seen mid)) c.args.old_end) after
     (settled (dev.sectors mid / 4) image)))
@@ -63,7 +70,7 @@ returns-in_err-arm_grown-clause-any_moment g c honest =
     (page_at (dev.seen mid)) low high
     ∙ ap (λ (ps : Pages). file_pages (overlaid ps (page_at (dev.seen mid))) c.args.new_end)
     (sym both))
-    (c.arm_grown.ensures.any_moment (c.bring_home.ensures.honesty.1 honest)))
+    (c.arm_grown.ensures.any_moment (c.bring_home.ensures.device.honesty.1 honest)))
 
 pub returns-then-pages-changed-clause-any_moment : goal.returns-then-pages-changed-clause-any_moment
 returns-then-pages-changed-clause-any_moment g c honest =
@@ -76,16 +83,17 @@ returns-then-pages-changed-clause-any_moment g c honest =
     let below = c.changed_in-changed.ensures.below c.if-changed-gt0.true in
     let low = first_is pages first rest count c.args.old_end c.args.new_end
     c.split_at.ensures.by_index.0 c.split_at.ensures.front_len c.if-changed-gt0.true
-    c.requires.in_order below c.changed_in-changed.ensures.from in
+    c.requires.pages.in_order below c.changed_in-changed.ensures.from in
     let high = rest_is pages first rest count c.args.old_end c.args.new_end
     c.split_at.ensures.by_index.0 c.split_at.ensures.front_len c.if-changed-gt0.true
-    c.requires.in_order below c.changed_in-changed.ensures.from in
+    c.requires.pages.in_order below c.changed_in-changed.ensures.from in
     let both = bytes_are pages first rest count c.args.old_end c.args.new_end
     c.split_at.ensures.by_index.0 c.split_at.ensures.front_len c.if-changed-gt0.true
-    c.requires.in_order below c.changed_in-changed.ensures.from in
+    c.requires.pages.in_order below c.changed_in-changed.ensures.from in
     behind dev c.args.dev.now c.arm_grown.new.dev c.args.old_end c.args.new_end
-    (bytes_of c.args.waiting.now) (bytes_of pages) c.requires.grown mid c.bring_home.ensures.size
-    (c.bring_home.ensures.any_moment honest) (c.in_ok-bring_home.ensures.pages honest)
+    (bytes_of c.args.waiting.now) (bytes_of pages) c.requires.grown mid
+    c.bring_home.ensures.device.size (c.bring_home.ensures.any_moment honest)
+    (c.in_ok-bring_home.ensures.pages honest)
     (subst (λ (after : Pages). LeavesOnly dev.moment dev.left_since mid c.arm_grown.new.dev
     (λ image. IsEither (file_pages (page_at (dev.seen mid)) c.args.old_end) after
     (settled (dev.sectors mid / 4) image)))
@@ -93,7 +101,7 @@ returns-then-pages-changed-clause-any_moment g c honest =
     (page_at (dev.seen mid)) low high
     ∙ ap (λ (ps : Pages). file_pages (overlaid ps (page_at (dev.seen mid))) c.args.new_end)
     (sym both))
-    (c.arm_grown.ensures.any_moment (c.bring_home.ensures.honesty.1 honest)))
+    (c.arm_grown.ensures.any_moment (c.bring_home.ensures.device.honesty.1 honest)))
 
 pub returns-then-pages-changed-clause-pages : goal.returns-then-pages-changed-clause-pages
 returns-then-pages-changed-clause-pages g c honest =
@@ -108,19 +116,20 @@ returns-then-pages-changed-clause-pages g c honest =
     let below = c.changed_in-changed.ensures.below c.if-changed-gt0.true in
     let low = first_is pages first rest count c.args.old_end end
     c.split_at.ensures.by_index.0 c.split_at.ensures.front_len c.if-changed-gt0.true
-    c.requires.in_order below c.changed_in-changed.ensures.from in
+    c.requires.pages.in_order below c.changed_in-changed.ensures.from in
     let high = rest_is pages first rest count c.args.old_end end
     c.split_at.ensures.by_index.0 c.split_at.ensures.front_len c.if-changed-gt0.true
-    c.requires.in_order below c.changed_in-changed.ensures.from in
+    c.requires.pages.in_order below c.changed_in-changed.ensures.from in
     let both = bytes_are pages first rest count c.args.old_end end
     c.split_at.ensures.by_index.0 c.split_at.ensures.front_len c.if-changed-gt0.true
-    c.requires.in_order below c.changed_in-changed.ensures.from in
+    c.requires.pages.in_order below c.changed_in-changed.ensures.from in
     let home = overlaid (bytes_of rest) (page_at mid) in
     ap (λ (ps : List Page). file_pages (overlaid (bytes_of ps) (page_at last)) end)
     (sym c.split_at.ensures.front)
     ∙ same_file (overlaid (bytes_of first) (page_at last)) (overlaid (bytes_of first) home) end
     (λ n ge lt. overlaid-over (bytes_of first) home (page_at last) n
-    (λ apart. c.in_ok-arm_grown.ensures.pages (c.bring_home.ensures.honesty.1 honest) n ge lt))
+    (λ apart. c.in_ok-arm_grown.ensures.pages
+    (c.bring_home.ensures.device.honesty.1 honest) n ge lt))
     ∙ either_way c.args.old_end end (bytes_of first) (bytes_of rest) (page_at mid) low high
     ∙ ap (λ (ps : Pages). file_pages (overlaid ps (page_at mid)) end) (sym both)
     ∙ new_pages

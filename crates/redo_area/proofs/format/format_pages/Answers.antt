@@ -72,7 +72,7 @@ returns-in_err-put_header-clause-any_moment g c honest none =
     (length c.args.pages.now) (g.met.D.SectorDev.seen_may_stay c.args.dev.now honest 0)
     (g.met.D.SectorDev.fits c.args.dev.now) (omega arith) c.requires.room c.clear_sector.ensures
     (images.stable honest) (images.others honest) (images.written honest)
-    (c.put_header.ensures.any_moment (c.put_images.ensures.honesty.1 honest))
+    (c.put_header.ensures.any_moment (c.put_images.ensures.device.honesty.1 honest))
 
 pub returns-clause-any_moment : goal.returns-clause-any_moment
 returns-clause-any_moment g c honest none =
@@ -82,13 +82,13 @@ returns-clause-any_moment g c honest none =
     (length c.args.pages.now) (g.met.D.SectorDev.seen_may_stay c.args.dev.now honest 0)
     (g.met.D.SectorDev.fits c.args.dev.now) (omega arith) c.requires.room c.clear_sector.ensures
     (images.stable honest) (images.others honest) (images.written honest)
-    (c.put_header.ensures.any_moment (c.put_images.ensures.honesty.1 honest))
+    (c.put_header.ensures.any_moment (c.put_images.ensures.device.honesty.1 honest))
 
 pub returns-clause-rest : goal.returns-clause-rest
 returns-clause-rest g c honest =
     let dev = g.D.SectorDev in
     let end : ℕ = 1 + length c.args.pages.now in
-    let h1 = c.put_images.ensures.honesty.1 honest in
+    let h1 = c.put_images.ensures.device.honesty.1 honest in
     let header = says_clear (dev.sectors c.args.dev.now) end c.clear_sector.result
     (g.met.D.SectorDev.fits c.args.dev.now) (omega arith) c.requires.room
     c.clear_sector.ensures in
@@ -100,6 +100,6 @@ pub returns-clause-pages : goal.returns-clause-pages
 returns-clause-pages g c honest =
     let pages = c.args.pages.now in
     ap (λ (s : Image). file_pages (page_at s) (1 + length pages))
-    (c.in_ok-put_header.ensures.seen (c.put_images.ensures.honesty.1 honest))
+    (c.in_ok-put_header.ensures.seen (c.put_images.ensures.device.honesty.1 honest))
     ∙ made (g.D.SectorDev.seen c.put_images.new.dev) c.clear_sector.result (length pages)
     (bytes_of pages) (c.in_ok-put_images.ensures.written honest)

@@ -52,12 +52,12 @@ returns-then-is_err g c =
           let h1 = inv.honesty.1 h in
           one_more g.D.SectorDev c.args.dev.now c.loop-i.dev c.read_page.new.dev (inv.only_reads h)
           (page.seen h1) (page.candidates h1) (page.keeps h1) page.still (page.any_moment h1);
-      later = later_then _ _ _ inv.faults page.cause.later;
+      later = later_then _ _ _ inv.faults page.device.cause.later;
       cause = λ _. more_later _ _ _ inv.faults
           (fault_from_test c.read_page.result c.is_err.ensures.value c.if-is_err.true
-          page.cause.fault);
-      honesty = both_ways page.honesty inv.honesty;
-      size = page.size ∙ inv.size;
+          page.device.cause.fault);
+      honesty = both_ways page.device.honesty inv.honesty;
+      size = page.device.size ∙ inv.size;
     }
 
 -- its number is out of range
@@ -90,10 +90,10 @@ returns-then-own-least g c =
           let h1 = inv.honesty.1 h in
           one_more g.D.SectorDev c.args.dev.now c.loop-i.dev c.read_page.new.dev (inv.only_reads h)
           (page.seen h1) (page.candidates h1) (page.keeps h1) page.still (page.any_moment h1);
-      later = later_then _ _ _ inv.faults page.cause.later;
+      later = later_then _ _ _ inv.faults page.device.cause.later;
       cause = λ is. other_fault Damaged Device refl is;
-      honesty = both_ways page.honesty inv.honesty;
-      size = page.size ∙ inv.size;
+      honesty = both_ways page.device.honesty inv.honesty;
+      size = page.device.size ∙ inv.size;
     }
 
 -- it finds no memory
@@ -111,10 +111,10 @@ returns-then-is_err-2 g c =
           let h1 = inv.honesty.1 h in
           one_more g.D.SectorDev c.args.dev.now c.loop-i.dev c.read_page.new.dev (inv.only_reads h)
           (page.seen h1) (page.candidates h1) (page.keeps h1) page.still (page.any_moment h1);
-      later = later_then _ _ _ inv.faults page.cause.later;
+      later = later_then _ _ _ inv.faults page.device.cause.later;
       cause = λ is. other_fault Memory Device refl is;
-      honesty = both_ways page.honesty inv.honesty;
-      size = page.size ∙ inv.size;
+      honesty = both_ways page.device.honesty inv.honesty;
+      size = page.device.size ∙ inv.size;
     }
 
 -- all are read
@@ -170,10 +170,10 @@ loop-i-preserved g c =
     from_test c.read_page.result c.is_err.ensures.value c.if-is_err.false (page.read (h1 h))
     ∙ ap (λ (s : Image). page_at s place) (inv.only_reads h).seen in
     record {
-      size = page.size ∙ inv.size;
+      size = page.device.size ∙ inv.size;
       small = omega arith;
-      honesty = both_ways page.honesty inv.honesty;
-      faults = omega (arith, page.cause.later, inv.faults);
+      honesty = both_ways page.device.honesty inv.honesty;
+      faults = omega (arith, page.device.cause.later, inv.faults);
       only_reads = λ h. one_more dev first c.loop-i.dev c.read_page.new.dev (inv.only_reads h)
           (page.seen (h1 h)) (page.candidates (h1 h)) (page.keeps (h1 h)) page.still (page.any_moment (h1 h));
       checked = λ h. inv.checked h ∙ one_in_order at c.args.start c.args.count c.args.end c.loop-i.i

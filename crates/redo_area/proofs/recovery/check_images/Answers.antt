@@ -28,10 +28,12 @@ returns-in_err-read_page g c =
           (IsImageOf (dev.candidate first)) (IsImageOf (dev.candidate before))
           (inv.moments h) (page.any_moment (inv.honesty.1 h))
           (λ image is m. inv.candidates h m (image m) (is m));
-      honesty = both_ways page.honesty inv.honesty;
-      cause = cause_after _ c.in_err-read_page.field-0.0 _ _ _ inv.faults
-          c.in_err-read_page.ensures.cause;
-      size = page.size ∙ inv.size;
+      device = record {
+        honesty = both_ways page.device.honesty inv.honesty;
+        cause = cause_after _ c.in_err-read_page.field-0.0 _ _ _ inv.faults
+            c.in_err-read_page.ensures.device.cause;
+        size = page.device.size ∙ inv.size;
+      };
     }
 
 -- its number is out of range
@@ -64,9 +66,11 @@ returns-then-own-least g c =
           (IsImageOf (dev.candidate first)) (IsImageOf (dev.candidate before))
           (inv.moments h) (page.any_moment (inv.honesty.1 h))
           (λ image is m. inv.candidates h m (image m) (is m));
-      honesty = both_ways page.honesty inv.honesty;
-      cause = cause_ok _ _ _ (later_then _ _ _ inv.faults page.cause.later);
-      size = page.size ∙ inv.size;
+      device = record {
+        honesty = both_ways page.device.honesty inv.honesty;
+        cause = cause_ok _ _ _ (later_then _ _ _ inv.faults page.device.cause.later);
+        size = page.device.size ∙ inv.size;
+      };
     }
 
 -- all are in order
@@ -82,9 +86,11 @@ returns g c =
       seen = inv.seen;
       candidates = inv.candidates;
       any_moment = inv.moments;
-      honesty = inv.honesty;
-      cause = cause_ok _ _ _ inv.faults;
-      size = inv.size;
+      device = record {
+        honesty = inv.honesty;
+        cause = cause_ok _ _ _ inv.faults;
+        size = inv.size;
+      };
     }
 
 pub loop-i-preserved : goal.loop-i-preserved
@@ -97,10 +103,10 @@ loop-i-preserved g c =
     let inv = c.loop-i.invariant in
     let h1 = inv.honesty.1 in
     record {
-      size = c.read_page.ensures.size ∙ inv.size;
+      size = c.read_page.ensures.device.size ∙ inv.size;
       small = omega arith;
-      honesty = both_ways c.read_page.ensures.honesty inv.honesty;
-      faults = omega (arith, c.read_page.ensures.cause.later, inv.faults);
+      honesty = both_ways c.read_page.ensures.device.honesty inv.honesty;
+      faults = omega (arith, c.read_page.ensures.device.cause.later, inv.faults);
       seen = λ h. c.read_page.ensures.seen (h1 h) ∙ inv.seen h;
       candidates = λ h m x may. inv.candidates h m x
           (c.read_page.ensures.candidates (h1 h) m x may);

@@ -90,32 +90,32 @@ returns-then-own-lt1-clause-written g c h =
 pub returns-in_err-read_page-clause-any_moment : goal.returns-in_err-read_page-clause-any_moment
 returns-in_err-read_page-clause-any_moment g c =
     let r = c.read_page.ensures in
-    (read_on g.D.SectorDev c.read_page.new.dev c.loop-i.invariant.keeps r.size r.honesty
-    r.cause.later r.any_moment r.candidates r.seen).any_moment
+    (read_on g.D.SectorDev c.read_page.new.dev c.loop-i.invariant.keeps r.device.size
+    r.device.honesty r.device.cause.later r.any_moment r.candidates r.seen).any_moment
 
 pub returns-in_err-read_page-clause-candidates : goal.returns-in_err-read_page-clause-candidates
 returns-in_err-read_page-clause-candidates g c =
     let r = c.read_page.ensures in
-    (read_on g.D.SectorDev c.read_page.new.dev c.loop-i.invariant.keeps r.size r.honesty
-    r.cause.later r.any_moment r.candidates r.seen).candidates
+    (read_on g.D.SectorDev c.read_page.new.dev c.loop-i.invariant.keeps r.device.size
+    r.device.honesty r.device.cause.later r.any_moment r.candidates r.seen).candidates
 
 pub returns-then-own-lt1-clause-any_moment : goal.returns-then-own-lt1-clause-any_moment
 returns-then-own-lt1-clause-any_moment g c =
     let r = c.read_page.ensures in
-    (read_on g.D.SectorDev c.read_page.new.dev c.loop-i.invariant.keeps r.size r.honesty
-    r.cause.later r.any_moment r.candidates r.seen).any_moment
+    (read_on g.D.SectorDev c.read_page.new.dev c.loop-i.invariant.keeps r.device.size
+    r.device.honesty r.device.cause.later r.any_moment r.candidates r.seen).any_moment
 
 pub returns-then-own-lt1-clause-candidates : goal.returns-then-own-lt1-clause-candidates
 returns-then-own-lt1-clause-candidates g c =
     let r = c.read_page.ensures in
-    (read_on g.D.SectorDev c.read_page.new.dev c.loop-i.invariant.keeps r.size r.honesty
-    r.cause.later r.any_moment r.candidates r.seen).candidates
+    (read_on g.D.SectorDev c.read_page.new.dev c.loop-i.invariant.keeps r.device.size
+    r.device.honesty r.device.cause.later r.any_moment r.candidates r.seen).candidates
 
 pub returns-then-own-lt1-clause-others : goal.returns-then-own-lt1-clause-others
 returns-then-own-lt1-clause-others g c =
     let r = c.read_page.ensures in
-    (read_on g.D.SectorDev c.read_page.new.dev c.loop-i.invariant.keeps r.size r.honesty
-    r.cause.later r.any_moment r.candidates r.seen).others
+    (read_on g.D.SectorDev c.read_page.new.dev c.loop-i.invariant.keeps r.device.size
+    r.device.honesty r.device.cause.later r.any_moment r.candidates r.seen).others
 
 pub returns-in_err-write_page-clause-any_moment : goal.returns-in_err-write_page-clause-any_moment
 returns-in_err-write_page-clause-any_moment g c =
@@ -125,12 +125,12 @@ returns-in_err-write_page-clause-any_moment g c =
     c.loop-i.i c.read_page.new.page.bytes c.requires.above c.loop-i-test.true
     c.requires.in_order c.loop-i.invariant.keeps c.in_ok-read_page.ensures.read
     c.read_page.new.dev c.write_page.new.dev c.own-own.result c.own-own.ensures.number
-    (read_on g.D.SectorDev c.read_page.new.dev c.loop-i.invariant.keeps r.size r.honesty
-    r.cause.later r.any_moment r.candidates r.seen)
+    (read_on g.D.SectorDev c.read_page.new.dev c.loop-i.invariant.keeps r.device.size
+    r.device.honesty r.device.cause.later r.any_moment r.candidates r.seen)
     (record {
-      size = w.size;
-      honesty = w.honesty;
-      faults = w.cause.later;
+      size = w.device.size;
+      honesty = w.device.honesty;
+      faults = w.device.cause.later;
       any_moment = w.any_moment;
       candidates = w.candidates;
       others = w.others;
@@ -144,12 +144,12 @@ returns-in_err-write_page-clause-candidates g c =
     c.loop-i.i c.read_page.new.page.bytes c.requires.above c.loop-i-test.true
     c.requires.in_order c.loop-i.invariant.keeps c.in_ok-read_page.ensures.read
     c.read_page.new.dev c.write_page.new.dev c.own-own.result c.own-own.ensures.number
-    (read_on g.D.SectorDev c.read_page.new.dev c.loop-i.invariant.keeps r.size r.honesty
-    r.cause.later r.any_moment r.candidates r.seen)
+    (read_on g.D.SectorDev c.read_page.new.dev c.loop-i.invariant.keeps r.device.size
+    r.device.honesty r.device.cause.later r.any_moment r.candidates r.seen)
     (record {
-      size = w.size;
-      honesty = w.honesty;
-      faults = w.cause.later;
+      size = w.device.size;
+      honesty = w.device.honesty;
+      faults = w.device.cause.later;
       any_moment = w.any_moment;
       candidates = w.candidates;
       others = w.others;
@@ -166,12 +166,12 @@ loop-i-preserved g c =
           c.args.end c.loop-i.i c.read_page.new.page.bytes c.requires.above c.loop-i-test.true
           c.requires.in_order c.loop-i.invariant.keeps c.in_ok-read_page.ensures.read
           c.read_page.new.dev c.write_page.new.dev c.own-own.result c.own-own.ensures.number
-          (read_on g.D.SectorDev c.read_page.new.dev c.loop-i.invariant.keeps r.size r.honesty
-          r.cause.later r.any_moment r.candidates r.seen)
+          (read_on g.D.SectorDev c.read_page.new.dev c.loop-i.invariant.keeps r.device.size
+          r.device.honesty r.device.cause.later r.any_moment r.candidates r.seen)
           (record {
-            size = w.size;
-            honesty = w.honesty;
-            faults = w.cause.later;
+            size = w.device.size;
+            honesty = w.device.honesty;
+            faults = w.device.cause.later;
             any_moment =
                 w.any_moment;
             candidates = w.candidates;
@@ -182,7 +182,7 @@ loop-i-preserved g c =
           let so_far = pages_from home c.args.start c.loop-i.i in
           let page = c.read_page.new.page.bytes in
           let h1 = inv.keeps.honesty.1 h in
-          let h2 = r.honesty.1 h1 in
+          let h2 = r.device.honesty.1 h1 in
           let bytes = as_first g.D.SectorDev c.args.dev.now c.loop-i.dev c.args.start c.args.count
           c.args.end c.loop-i.i c.read_page.new.page.bytes c.requires.above c.loop-i-test.true
           c.requires.in_order c.loop-i.invariant.keeps c.in_ok-read_page.ensures.read h in

@@ -22,7 +22,7 @@ returns-then-not-good-clause-any_moment g c honest =
 pub returns-in_err-sync-clause-any_moment : goal.returns-in_err-sync-clause-any_moment
 returns-in_err-sync-clause-any_moment g c honest =
     let copied = c.copy_images.ensures in
-    let h1 = copied.honesty.1 honest in
+    let h1 = copied.device.honesty.1 honest in
     sync_leaves g.D.SectorDev c.args.dev.now c.copy_images.new.dev c.sync.new.self
     (c.requires.armed honest) c.requires.above (copied.any_moment honest)
     (copied.candidates honest)
@@ -30,7 +30,7 @@ returns-in_err-sync-clause-any_moment g c honest =
 
 pub returns-in_err-put_header-clause-any_moment : goal.returns-in_err-put_header-clause-any_moment
 returns-in_err-put_header-clause-any_moment g c honest =
-    let h1 = c.copy_images.ensures.honesty.1 honest in
+    let h1 = c.copy_images.ensures.device.honesty.1 honest in
     replay_leaves g.D.SectorDev c.args.dev.now c.copy_images.new.dev c.sync.new.self
     (c.requires.armed honest) c.requires.above (c.copy_images.ensures.any_moment honest)
     (c.copy_images.ensures.candidates honest) (c.sync.ensures.time h1)
@@ -43,7 +43,7 @@ returns-in_err-put_header-clause-any_moment g c honest =
 
 pub returns-clause-any_moment : goal.returns-clause-any_moment
 returns-clause-any_moment g c honest =
-    let h1 = c.copy_images.ensures.honesty.1 honest in
+    let h1 = c.copy_images.ensures.device.honesty.1 honest in
     replay_leaves g.D.SectorDev c.args.dev.now c.copy_images.new.dev c.sync.new.self
     (c.requires.armed honest) c.requires.above (c.copy_images.ensures.any_moment honest)
     (c.copy_images.ensures.candidates honest) (c.sync.ensures.time h1)
@@ -57,7 +57,7 @@ returns-clause-any_moment g c honest =
 pub returns-clause-rest : goal.returns-clause-rest
 returns-clause-rest g c honest =
     let dev = g.D.SectorDev in
-    let h2 = c.sync.ensures.honesty.1 (c.copy_images.ensures.honesty.1 honest) in
+    let h2 = c.sync.ensures.honesty.1 (c.copy_images.ensures.device.honesty.1 honest) in
     let header = says_clear (dev.sectors c.args.dev.now) c.args.end c.clear_sector.result
     (g.met.D.SectorDev.fits c.args.dev.now) c.requires.least
     (omega (arith, c.requires.above, c.requires.room)) c.clear_sector.ensures in
@@ -69,7 +69,7 @@ pub returns-clause-pages : goal.returns-clause-pages
 returns-clause-pages g c honest =
     let dev = g.D.SectorDev in
     let first = dev.seen c.args.dev.now in
-    let h1 = c.copy_images.ensures.honesty.1 honest in
+    let h1 = c.copy_images.ensures.device.honesty.1 honest in
     ap (λ (s : Image). file_pages (page_at s) c.args.end)
     (c.in_ok-put_header.ensures.seen (c.sync.ensures.honesty.1 h1))
     ∙ now_clear (dev.sectors c.args.dev.now / 4) first (dev.seen c.sync.new.self)

@@ -27,7 +27,7 @@ returns-then-is_empty-clause-any_moment g c honest =
     let waiting = bytes_of c.args.waiting.now in
     let cap : ℕ = dev.sectors first / 4 in
     let none = is_none c.args.waiting.now c.is_empty.ensures c.if-is_empty.true in
-    let waits = c.requires.waits honest in
+    let waits = c.requires.waiting.waits honest in
     let rests = rests_at true cap c.args.end c.args.start waiting (dev.candidate first)
     (dev.seen first) none
     (record { stable = waits.stable; header = waits.clear (ap length none) }) in
@@ -45,7 +45,7 @@ returns-then-is_empty-clause-any_moment g c honest =
 pub returns-then-is_empty-clause-rest : goal.returns-then-is_empty-clause-rest
 returns-then-is_empty-clause-rest g c honest =
     let none = is_none c.args.waiting.now c.is_empty.ensures c.if-is_empty.true in
-    let waits = c.requires.waits honest in
+    let waits = c.requires.waiting.waits honest in
     record { stable = waits.stable; header = waits.clear (ap length none) }
 
 pub returns-then-is_empty-clause-pages : goal.returns-then-is_empty-clause-pages
@@ -54,6 +54,6 @@ returns-then-is_empty-clause-pages g c honest =
     ap (λ (ps : Pages). file_pages (overlaid ps (page_at (g.D.SectorDev.seen c.args.dev.now)))
     c.args.end) (sym none)
 
-pub finish-requires-clause-armed : goal.finish-requires-clause-armed
-finish-requires-clause-armed g c honest = (c.requires.waits honest).armed
+pub disarm-requires-clause-armed : goal.disarm-requires-clause-armed
+disarm-requires-clause-armed g c honest = (c.requires.waiting.waits honest).armed
     (is_some c.args.waiting.now c.is_empty.ensures c.if-is_empty.false)

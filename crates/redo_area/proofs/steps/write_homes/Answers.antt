@@ -56,9 +56,9 @@ returns-in_err-write_page-clause-any_moment g c =
     c.loop-page-test.true c.page-item.is
     c.own.ensures.number c.loop-page.invariant.keeps
     (record {
-      size = w.size;
-      honesty = w.honesty;
-      faults = w.cause.later;
+      size = w.device.size;
+      honesty = w.device.honesty;
+      faults = w.device.cause.later;
       any_moment =
           w.any_moment;
       candidates = w.candidates;
@@ -73,9 +73,9 @@ returns-in_err-write_page-clause-candidates g c =
     c.loop-page-test.true c.page-item.is
     c.own.ensures.number c.loop-page.invariant.keeps
     (record {
-      size = w.size;
-      honesty = w.honesty;
-      faults = w.cause.later;
+      size = w.device.size;
+      honesty = w.device.honesty;
+      faults = w.device.cause.later;
       any_moment =
           w.any_moment;
       candidates = w.candidates;
@@ -96,9 +96,9 @@ loop-page-preserved g c =
           c.loop-page-test.true c.page-item.is
           c.own.ensures.number c.loop-page.invariant.keeps
           (record {
-            size = w.size;
-            honesty = w.honesty;
-            faults = w.cause.later;
+            size = w.device.size;
+            honesty = w.device.honesty;
+            faults = w.device.cause.later;
             any_moment =
                 w.any_moment;
             candidates = w.candidates;

@@ -30,9 +30,9 @@ returns-in_err-write_page-clause-any_moment g c =
     (keeps_on g.D.SectorDev (IsOutside (4 * c.args.start) (4 * (c.args.start + length c.args.pages.now))) (IsOutsidePage c.loop-page.n) c.args.dev.now
     c.loop-page.dev c.write_page.new.dev c.loop-page.invariant.keeps
     (record {
-      size = w.size;
-      honesty = w.honesty;
-      faults = w.cause.later;
+      size = w.device.size;
+      honesty = w.device.honesty;
+      faults = w.device.cause.later;
       any_moment = w.any_moment;
       candidates = w.candidates;
       others = w.others;
@@ -46,9 +46,9 @@ returns-in_err-write_page-clause-candidates g c =
     (keeps_on g.D.SectorDev (IsOutside (4 * c.args.start) (4 * (c.args.start + length c.args.pages.now))) (IsOutsidePage c.loop-page.n) c.args.dev.now
     c.loop-page.dev c.write_page.new.dev c.loop-page.invariant.keeps
     (record {
-      size = w.size;
-      honesty = w.honesty;
-      faults = w.cause.later;
+      size = w.device.size;
+      honesty = w.device.honesty;
+      faults = w.device.cause.later;
       any_moment = w.any_moment;
       candidates = w.candidates;
       others = w.others;
@@ -70,9 +70,9 @@ loop-page-preserved g c =
       keeps = keeps_on g.D.SectorDev (IsOutside (4 * c.args.start) (4 * (c.args.start + length c.args.pages.now))) (IsOutsidePage c.loop-page.n)
           c.args.dev.now c.loop-page.dev c.write_page.new.dev c.loop-page.invariant.keeps
           (record {
-            size = w.size;
-            honesty = w.honesty;
-            faults = w.cause.later;
+            size = w.device.size;
+            honesty = w.device.honesty;
+            faults = w.device.cause.later;
             any_moment =
                 w.any_moment;
             candidates = w.candidates;

@@ -1,7 +1,7 @@
 use Rattle.std.proofs.Common.{◌≡◌, ◌+◌, ◌/◌, None, sym, ap, ◌∙◌, refl, subst, arith}
 use Rattle.std.proofs.lemmas.Bool.{ltb-false}
 use Rattle.sect_dev.specs.contracts.mem.MemDevSectorDev.TheImpl.{ghosts as MemDevGhosts}
-use Rattle.sect_dev.proofs.Plans.{goes_until}
+use Rattle.sect_dev.proofs.Schedules.{goes_until}
 use Rattle.dbm_model.specs.Sessions.{Disk}
 use Rattle.dbm_file.specs.Opened as files
 use Rattle.file_opening.specs.Opening.{early_fault, AllStand, AllAllow}
@@ -90,6 +90,6 @@ returns-clause-stops c before stand =
       run.until,
       c.new-fuse.ensures.until (MemDevGhosts.moment first.inner.inner).at,
       ap (λ d. (MemDevGhosts.moment d).at) given,
-      goes_until last.plan (MemDevGhosts.moment last.inner.inner).at,
+      goes_until last.schedule (MemDevGhosts.moment last.inner.inner).at,
       ap (λ d. (MemDevGhosts.moment d).at) left,
     )

@@ -120,8 +120,8 @@ returns-clause-leaves g c honest h at usable =
     more.keeps.goes.later in
     let few : last.faults ≤ most = omega (arith, told, then_more, closed.later) in
     by_ending (page_state mid).usable (page_state new).usable stored c.close-dev.result.1
-    c.ended.result c.in-Ok.replies more.keeps.broken closed.broken c.ended.ensures.rested
-    c.ended.ensures.failed c.ended.ensures.broke_group c.ended.ensures.broke
+    c.session_ending.result c.in-Ok.replies more.keeps.broken closed.broken c.session_ending.ensures.rested
+    c.session_ending.ensures.failed c.session_ending.ensures.broke_group c.session_ending.ensures.broke
     (λ (e : Ending). CallsLeave most h calls group e (dev.sectors left / 4) (dev.candidate left))
     (λ was now. let one = stored_group _ mid new last group stored ends now in
     let shown : one.shown.faults ≡ dev.faults (device_below new) =
@@ -212,8 +212,8 @@ returns-clause-any_moment g c honest h at usable =
     goes.capacity (run.survives (sym (ap (λ (x : Handle). x.state.usable) at.shows) ∙ usable))
     (left_within most h last calls group replies e same usable few) in
     by_ending (page_state mid).usable (page_state new).usable stored c.close-dev.result.1
-    c.ended.result c.in-Ok.replies more.keeps.broken closed.broken c.ended.ensures.rested
-    c.ended.ensures.failed c.ended.ensures.broke_group c.ended.ensures.broke
+    c.session_ending.result c.in-Ok.replies more.keeps.broken closed.broken c.session_ending.ensures.rested
+    c.session_ending.ensures.failed c.session_ending.ensures.broke_group c.session_ending.ensures.broke
     (λ (e : Ending). LeavesOnly dev.moment (outcome pages) (device_below old) left (Left e))
     (λ was now.
     let one = stored_group _ mid new last group stored ends now in
@@ -281,9 +281,9 @@ returns-clause-room g c honest h at room =
     let replies = map reply_of c.in-Ok.replies.items in
     let never = (room_is_known h run.after (map call_of c.args.calls.now) replies room run.run).0 in
     which_ending (page_state c.run.new.db).usable (page_state c.store_many-stored.new.self).usable
-    c.store_many-stored.result c.close-dev.result.1 c.ended.result c.in-Ok.replies
-    c.store_many-stored.ensures.keeps.broken c.close-dev.ensures.broken c.ended.ensures.rested
-    c.ended.ensures.failed c.ended.ensures.broke_group c.ended.ensures.broke
+    c.store_many-stored.result c.close-dev.result.1 c.session_ending.result c.in-Ok.replies
+    c.store_many-stored.ensures.keeps.broken c.close-dev.ensures.broken c.session_ending.ensures.rested
+    c.session_ending.ensures.failed c.session_ending.ensures.broke_group c.session_ending.ensures.broke
     (λ e. (count : ℕ) → IsNeverShort (ending_of e count))
     (λ was now. (λ count. never, λ count. never)) (λ was now count. never) (λ broken count. never)
 
@@ -292,9 +292,9 @@ pub returns-clause-one_each : goal.returns-clause-one_each
 returns-clause-one_each g c =
     let each = c.in-Ok.ensures.one_each in
     which_ending (page_state c.run.new.db).usable (page_state c.store_many-stored.new.self).usable
-    c.store_many-stored.result c.close-dev.result.1 c.ended.result c.in-Ok.replies
-    c.store_many-stored.ensures.keeps.broken c.close-dev.ensures.broken c.ended.ensures.rested
-    c.ended.ensures.failed c.ended.ensures.broke_group c.ended.ensures.broke
+    c.store_many-stored.result c.close-dev.result.1 c.session_ending.result c.in-Ok.replies
+    c.store_many-stored.ensures.keeps.broken c.close-dev.ensures.broken c.session_ending.ensures.rested
+    c.session_ending.ensures.failed c.session_ending.ensures.broke_group c.session_ending.ensures.broke
     (IsOneEach c.args.calls.now) (λ was now. (each, each)) (λ was now. each) (λ broken. each)
 
 -- ---- how the group was stored
@@ -303,9 +303,9 @@ pub returns-clause-within : goal.returns-clause-within
 returns-clause-within g c =
     let within = c.store_many-stored.ensures.within in
     which_ending (page_state c.run.new.db).usable (page_state c.store_many-stored.new.self).usable
-    c.store_many-stored.result c.close-dev.result.1 c.ended.result c.in-Ok.replies
-    c.store_many-stored.ensures.keeps.broken c.close-dev.ensures.broken c.ended.ensures.rested
-    c.ended.ensures.failed c.ended.ensures.broke_group c.ended.ensures.broke
+    c.store_many-stored.result c.close-dev.result.1 c.session_ending.result c.in-Ok.replies
+    c.store_many-stored.ensures.keeps.broken c.close-dev.ensures.broken c.session_ending.ensures.rested
+    c.session_ending.ensures.failed c.session_ending.ensures.broke_group c.session_ending.ensures.broke
     (λ e. IfGrouped e (λ (stored : Result ℕ Fault).
     IfOk stored (λ n. n ≤ length c.args.group.now)))
     (λ was now. (within, within)) (λ was now. tt) (λ broken. tt)
@@ -325,9 +325,9 @@ returns-clause-group_refused g c writable =
     (λ device. let rises : MoreFaults (dev.faults old) (dev.faults left) =
     omega (arith, goes.later, more.keeps.fault device, c.close-dev.ensures.later) in rises) in
     which_ending (page_state mid).usable (page_state c.store_many-stored.new.self).usable
-    c.store_many-stored.result c.close-dev.result.1 c.ended.result c.in-Ok.replies
-    more.keeps.broken c.close-dev.ensures.broken c.ended.ensures.rested
-    c.ended.ensures.failed c.ended.ensures.broke_group c.ended.ensures.broke
+    c.store_many-stored.result c.close-dev.result.1 c.session_ending.result c.in-Ok.replies
+    more.keeps.broken c.close-dev.ensures.broken c.session_ending.ensures.rested
+    c.session_ending.ensures.failed c.session_ending.ensures.broke_group c.session_ending.ensures.broke
     (λ e. IfGrouped e (λ (stored : Result ℕ Fault). IfErr stored (λ fault. (fault ≡ Device)
     × MoreFaults (dev.faults old) (dev.faults left))))
     (λ was now. (refused was, refused was)) (λ was now. tt) (λ broken. tt)
@@ -354,8 +354,8 @@ returns-clause-steps g c honest h at usable =
     let outcome = λ (n : ℕ). IsOutcome dev.left_since (settled n) in
     let pages : ℕ = dev.sectors (device_below mid) / 4 in
     which_ending (page_state mid).usable (page_state new).usable stored c.close-dev.result.1
-    c.ended.result c.in-Ok.replies more.keeps.broken closed.broken c.ended.ensures.rested
-    c.ended.ensures.failed c.ended.ensures.broke_group c.ended.ensures.broke
+    c.session_ending.result c.in-Ok.replies more.keeps.broken closed.broken c.session_ending.ensures.rested
+    c.session_ending.ensures.failed c.session_ending.ensures.broke_group c.session_ending.ensures.broke
     (λ e. IfMade e (λ replies. MadeInSteps dev _ _ c.args.db left h calls group replies))
     (λ was now.
     let one = stored_group _ mid new last group stored ends now in

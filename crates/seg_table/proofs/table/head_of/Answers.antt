@@ -16,22 +16,22 @@ returns-in_err-read_segment g c =
     let result = c.from_residual in
     let exit = exit_is result.result c.in_err-read_segment.field-0.0 result.ensures.1 in
     record {
-      reads = told.reads;
-      cause = cause_first _ _ exit _ _ told.cause;
+      reads = record { only = told.reads.only; cause = cause_first _ _ exit _ _ told.reads.cause };
       answer = head_heads _ _ refl _ _ exit told.answer;
       entry = λ honest. IfOk-from_err _ _ result.ensures.0;
       exact = λ honest heads are lt. IfOk-from_err _ _ result.ensures.0;
       whole = λ honest heads are damaged.
-          told.readable honest (part_said _ _ heads _ are c.requires) (came _ _ exit Damaged damaged);
+          told.readable honest (part_said _ _ heads _ are c.requires) (came _ _ exit Damaged
+          damaged);
       readable = λ honest says damaged. told.readable honest says (came _ _ exit Damaged damaged);
     }
 
 -- the head stands in it
 pub returns-clause-reads : goal.returns-clause-reads
-returns-clause-reads g c = c.in_ok-read_segment.ensures.reads
-
-pub returns-clause-cause : goal.returns-clause-cause
-returns-clause-cause g c = cause_ok _ _ _ c.in_ok-read_segment.ensures.cause.later
+returns-clause-reads g c = record {
+  only = c.in_ok-read_segment.ensures.reads.only;
+  cause = cause_ok _ _ _ c.in_ok-read_segment.ensures.reads.cause.later;
+}
 
 pub returns-clause-answer : goal.returns-clause-answer
 returns-clause-answer g c = no_head_refusal _ _

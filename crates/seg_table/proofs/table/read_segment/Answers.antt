@@ -22,8 +22,7 @@ returns-in_err-read g c =
     let reads = after_read g.S.PageStore _ _ (g.met.S.PageStore.counts_now c.read.new.self)
     told.state told.honesty told.cause.later told.kept in
     record {
-      reads = reads;
-      cause = cause_first _ _ exit _ _ told.cause;
+      reads = record { only = reads; cause = cause_first _ _ exit _ _ told.cause };
       answer = read_heads _ _ refl _ _ exit _ told.answer;
       known = IfOk-from_err _ _ result.ensures.0;
       segment = IfOk-from_err _ _ result.ensures.0;
@@ -42,13 +41,12 @@ returns-in_err-read g c =
 
 -- the page is a segment
 pub returns-then-segment_ok-clause-reads : goal.returns-then-segment_ok-clause-reads
-returns-then-segment_ok-clause-reads g c =
-    after_read g.S.PageStore _ _ (g.met.S.PageStore.counts_now c.read.new.self)
-    c.in_ok-read.ensures.state c.in_ok-read.ensures.honesty c.in_ok-read.ensures.cause.later
-    c.in_ok-read.ensures.kept
-
-pub returns-then-segment_ok-clause-cause : goal.returns-then-segment_ok-clause-cause
-returns-then-segment_ok-clause-cause g c = cause_ok _ _ _ c.in_ok-read.ensures.cause.later
+returns-then-segment_ok-clause-reads g c = record {
+  only = after_read g.S.PageStore _ _ (g.met.S.PageStore.counts_now c.read.new.self)
+      c.in_ok-read.ensures.state c.in_ok-read.ensures.honesty c.in_ok-read.ensures.cause.later
+      c.in_ok-read.ensures.kept;
+  cause = cause_ok _ _ _ c.in_ok-read.ensures.cause.later;
+}
 
 pub returns-then-segment_ok-clause-answer : goal.returns-then-segment_ok-clause-answer
 returns-then-segment_ok-clause-answer g c = no_head_refusal _ _
@@ -68,13 +66,12 @@ returns-then-segment_ok-clause-segment g c =
 
 -- it is none
 pub returns-else-segment_ok-clause-reads : goal.returns-else-segment_ok-clause-reads
-returns-else-segment_ok-clause-reads g c =
-    after_read g.S.PageStore _ _ (g.met.S.PageStore.counts_now c.read.new.self)
-    c.in_ok-read.ensures.state c.in_ok-read.ensures.honesty c.in_ok-read.ensures.cause.later
-    c.in_ok-read.ensures.kept
-
-pub returns-else-segment_ok-clause-cause : goal.returns-else-segment_ok-clause-cause
-returns-else-segment_ok-clause-cause g c = cause_damaged _ _ c.in_ok-read.ensures.cause.later
+returns-else-segment_ok-clause-reads g c = record {
+  only = after_read g.S.PageStore _ _ (g.met.S.PageStore.counts_now c.read.new.self)
+      c.in_ok-read.ensures.state c.in_ok-read.ensures.honesty c.in_ok-read.ensures.cause.later
+      c.in_ok-read.ensures.kept;
+  cause = cause_damaged _ _ c.in_ok-read.ensures.cause.later;
+}
 
 pub returns-else-segment_ok-clause-answer : goal.returns-else-segment_ok-clause-answer
 returns-else-segment_ok-clause-answer g c = damaged_heads _

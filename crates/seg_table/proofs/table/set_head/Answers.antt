@@ -29,15 +29,16 @@ returns-in_err-n g c =
     let result = c.from_residual in
     let exit = exit_is result.result c.in_err-n.field-0.0 result.ensures.1 in
     record {
-      stages = told.reads.stages_only;
-      few = few_same _ _ 1 told.reads.same;
-      cause = cause_first _ _ exit _ _ told.cause;
+      stages = record {
+        only = told.reads.only.stages_only;
+        cause = cause_first _ _ exit _ _ told.reads.cause;
+      };
+      few = few_same _ _ 1 told.reads.only.same;
       answer = take_sets _ _ refl _ _ exit _ _ told.answer;
       err = if_exit _ _ _ exit refl;
-      err_state = if_exit _ _ _ exit told.reads.same;
+      err_state = if_exit _ _ _ exit told.reads.only.same;
       ok = IfOk-from_err _ _ result.ensures.0;
-      ends = told.ends;
-      may_end = λ may. IfOk-from_err _ _ result.ensures.0;
+      keeps = record { ends = told.ends; may_end = λ may. IfOk-from_err _ _ result.ensures.0 };
       set = λ honest. IfOk-from_err _ _ result.ensures.0;
       exact = λ honest heads s can. IfOk-from_err _ _ result.ensures.0;
       whole = λ honest heads s can damaged.
@@ -58,16 +59,17 @@ returns-in_err-stage g c =
     c.stage.result (g.met.S.PageStore.counts_now c.stage.new.self) done.ok done.err done.honesty
     done.faults done.kept in
     record {
-      stages = stages_then st _ _ _ (g.met.S.PageStore.counts_now c.take.new.store)
-          one.reads.stages_only staged;
-      few = few_same _ _ 1 (told.err ∙ one.reads.same);
-      cause = cause_stage _ _ exit _ _ _ _ _ _ one.cause.later done.faults told.answer;
-      answer = stage_sets _ _ one.reads.same _ _ exit _ _ _ told.answer;
+      stages = record {
+        only = stages_then st _ _ _ (g.met.S.PageStore.counts_now c.take.new.store)
+            one.reads.only.stages_only staged;
+        cause = cause_stage _ _ exit _ _ _ _ _ _ one.reads.cause.later done.faults told.answer;
+      };
+      few = few_same _ _ 1 (told.err ∙ one.reads.only.same);
+      answer = stage_sets _ _ one.reads.only.same _ _ exit _ _ _ told.answer;
       err = if_exit _ _ _ exit refl;
-      err_state = if_exit _ _ _ exit (told.err ∙ one.reads.same);
+      err_state = if_exit _ _ _ exit (told.err ∙ one.reads.only.same);
       ok = IfOk-from_err _ _ result.ensures.0;
-      ends = one.ends;
-      may_end = λ may. IfOk-from_err _ _ result.ensures.0;
+      keeps = record { ends = one.ends; may_end = λ may. IfOk-from_err _ _ result.ensures.0 };
       set = λ honest. IfOk-from_err _ _ result.ensures.0;
       exact = λ honest heads s can. IfOk-from_err _ _ result.ensures.0;
       whole = λ honest heads s can damaged.
@@ -90,7 +92,7 @@ pub returns-then-s-len-clause-few : goal.returns-then-s-len-clause-few
 returns-then-s-len-clause-few g c =
     let after = g.S.PageStore.state c.stage.new.self in
     subst (λ (st : StoreState). length after.staged ≤ length st.staged + 1)
-    c.in_ok-n.ensures.reads.same
+    c.in_ok-n.ensures.reads.only.same
     (few_after (g.S.PageStore.state c.take.new.store) after c.set_u32_at.new.self.bytes
     c.stage.result (g.met.S.PageStore.in_order c.take.new.store) c.stage.ensures.ok
     c.stage.ensures.err)
@@ -100,14 +102,16 @@ returns-then-s-len-clause-ok g c =
     adds (model_meta c.args.meta.now) c.push.new.self.items c.in_ok-n.n c.args.bucket (omega arith)
     c.in_ok-n.ensures.number (omega arith) c.push.ensures.items
 
-pub returns-then-s-len-clause-may_end : goal.returns-then-s-len-clause-may_end
-returns-then-s-len-clause-may_end g c may =
-    let bytes = c.set_u32_at.new.self.bytes in
-    let put = c.in_ok-stage.ensures.ok
-    ∙ ap (λ (st : StoreState). record st { staged = put_page st.staged bytes })
-    c.in_ok-n.ensures.reads.same in
-    subst (λ (st : StoreState). MayEnd st c.take.new.space.file_end) (sym put)
-    (c.in_ok-n.ensures.may_end may bytes (fresh_number g c))
+pub returns-then-s-len-clause-keeps : goal.returns-then-s-len-clause-keeps
+returns-then-s-len-clause-keeps g c = record {
+  ends = c.in_ok-n.ensures.ends;
+  may_end = λ may. let bytes = c.set_u32_at.new.self.bytes in
+      let put = c.in_ok-stage.ensures.ok
+      ∙ ap (λ (st : StoreState). record st { staged = put_page st.staged bytes })
+      c.in_ok-n.ensures.reads.only.same in
+      subst (λ (st : StoreState). MayEnd st c.take.new.space.file_end) (sym put)
+      (c.in_ok-n.ensures.may_end may bytes (fresh_number g c));
+}
 
 pub returns-then-s-len-clause-exact : goal.returns-then-s-len-clause-exact
 returns-then-s-len-clause-exact g c honest heads s can =
@@ -118,7 +122,7 @@ returns-then-s-len-clause-exact g c honest heads s can =
     let n = c.in_ok-n.n in
     let bytes = c.set_u32_at.new.self.bytes in
     let done = c.stage.ensures in
-    let reads = c.in_ok-n.ensures.reads in
+    let reads = c.in_ok-n.ensures.reads.only in
     let put = c.in_ok-stage.ensures.ok in
     let order = g.met.S.PageStore.in_order old in
     let stages = after_stage store mid new bytes c.stage.result (g.met.S.PageStore.counts_now new)
@@ -148,7 +152,7 @@ returns-then-s-len-clause-set g c honest =
     let i = c.args.bucket % 508 in
     let bytes = c.set_u32_at.new.self.bytes in
     let done = c.stage.ensures in
-    let reads = c.in_ok-n.ensures.reads in
+    let reads = c.in_ok-n.ensures.reads.only in
     let put = c.in_ok-stage.ensures.ok in
     let order = g.met.S.PageStore.in_order old in
     let stages = after_stage store mid new bytes c.stage.result (g.met.S.PageStore.counts_now new)
@@ -168,24 +172,19 @@ returns-then-s-len-clause-set g c honest =
     })
 
 pub returns-then-s-len-clause-stages : goal.returns-then-s-len-clause-stages
-returns-then-s-len-clause-stages g c =
-    let done = c.stage.ensures in
-    stages_then g.S.PageStore _ _ _ (g.met.S.PageStore.counts_now c.take.new.store)
-    c.in_ok-n.ensures.reads.stages_only
-    (after_stage g.S.PageStore c.take.new.store c.stage.new.self c.set_u32_at.new.self.bytes
-    c.stage.result (g.met.S.PageStore.counts_now c.stage.new.self) done.ok done.err
-    done.honesty done.faults done.kept)
-
-pub returns-then-s-len-clause-cause : goal.returns-then-s-len-clause-cause
-returns-then-s-len-clause-cause g c =
-    cause_ok _ _ _ (cause_stage_last _ _ _ _ _ _ _ c.in_ok-n.ensures.cause.later
-    c.stage.ensures.faults c.stage.ensures.answer).later
+returns-then-s-len-clause-stages g c = record {
+  only = let done = c.stage.ensures in
+      stages_then g.S.PageStore _ _ _ (g.met.S.PageStore.counts_now c.take.new.store)
+      c.in_ok-n.ensures.reads.only.stages_only
+      (after_stage g.S.PageStore c.take.new.store c.stage.new.self c.set_u32_at.new.self.bytes
+      c.stage.result (g.met.S.PageStore.counts_now c.stage.new.self) done.ok done.err
+      done.honesty done.faults done.kept);
+  cause = cause_ok _ _ _ (cause_stage_last _ _ _ _ _ _ _ c.in_ok-n.ensures.reads.cause.later
+      c.stage.ensures.faults c.stage.ensures.answer).later;
+}
 
 pub returns-then-s-len-clause-answer : goal.returns-then-s-len-clause-answer
 returns-then-s-len-clause-answer g c = no_set_refusal _ _ _ _
-
-pub returns-then-s-len-clause-ends : goal.returns-then-s-len-clause-ends
-returns-then-s-len-clause-ends g c = c.in_ok-n.ensures.ends
 
 pub returns-then-s-len-clause-whole : goal.returns-then-s-len-clause-whole
 returns-then-s-len-clause-whole g c honest heads s can damaged = cc
@@ -200,15 +199,16 @@ returns-in_err-read_segment g c =
     let result = c.from_residual-in_err-read_segment in
     let exit = exit_is result.result c.in_err-read_segment.field-0.0 result.ensures.1 in
     record {
-      stages = told.reads.stages_only;
-      few = few_same _ _ 1 told.reads.same;
-      cause = cause_first _ _ exit _ _ told.cause;
+      stages = record {
+        only = told.reads.only.stages_only;
+        cause = cause_first _ _ exit _ _ told.reads.cause;
+      };
+      few = few_same _ _ 1 told.reads.only.same;
       answer = head_sets _ _ refl _ _ exit _ _ told.answer;
       err = if_exit _ _ _ exit refl;
-      err_state = if_exit _ _ _ exit told.reads.same;
+      err_state = if_exit _ _ _ exit told.reads.only.same;
       ok = IfOk-from_err _ _ result.ensures.0;
-      ends = λ e. e;
-      may_end = λ may. IfOk-from_err _ _ result.ensures.0;
+      keeps = record { ends = λ e. e; may_end = λ may. IfOk-from_err _ _ result.ensures.0 };
       set = λ honest. IfOk-from_err _ _ result.ensures.0;
       exact = λ honest heads s can. IfOk-from_err _ _ result.ensures.0;
       whole = λ honest heads s can damaged.
@@ -246,7 +246,7 @@ pub returns-clause-few : goal.returns-clause-few
 returns-clause-few g c =
     let after = g.S.PageStore.state c.stage-2.new.self in
     subst (λ (st : StoreState). length after.staged ≤ length st.staged + 1)
-    c.in_ok-read_segment.ensures.reads.same
+    c.in_ok-read_segment.ensures.reads.only.same
     (few_after (g.S.PageStore.state c.read_segment.new.store) after c.set_u32_at-2.new.self.bytes
     c.stage-2.result (g.met.S.PageStore.in_order c.read_segment.new.store)
     c.stage-2.ensures.ok c.stage-2.ensures.err)
@@ -255,16 +255,18 @@ pub returns-clause-ok : goal.returns-clause-ok
 returns-clause-ok g c = on_ok_weaker c.stage-2.result
     (λ put. adds_none (model_meta c.args.meta.now) c.args.bucket (omega arith)) c.stage-2.ensures.ok
 
-pub returns-clause-may_end : goal.returns-clause-may_end
-returns-clause-may_end g c may =
-    let bytes = c.set_u32_at-2.new.self.bytes in
-    let n = get_or c.args.meta.now.segments.items (c.args.bucket / 508) 0 in
-    let same = c.in_ok-read_segment.ensures.reads.same in
-    on_ok_weaker c.stage-2.result (λ put.
-    known_may_end (g.S.PageStore.state c.args.store.now) (g.S.PageStore.state c.stage-2.new.self)
-    c.args.space.now.file_end n bytes c.in_ok-read_segment.ensures.known (segment_number g c)
-    (put ∙ ap (λ (st : StoreState). record st { staged = put_page st.staged bytes }) same) may)
-    c.stage-2.ensures.ok
+pub returns-clause-keeps : goal.returns-clause-keeps
+returns-clause-keeps g c = record {
+  ends = λ e. e;
+  may_end = λ may. let bytes = c.set_u32_at-2.new.self.bytes in
+      let n = get_or c.args.meta.now.segments.items (c.args.bucket / 508) 0 in
+      let same = c.in_ok-read_segment.ensures.reads.only.same in
+      on_ok_weaker c.stage-2.result (λ put.
+      known_may_end (g.S.PageStore.state c.args.store.now) (g.S.PageStore.state c.stage-2.new.self)
+      c.args.space.now.file_end n bytes c.in_ok-read_segment.ensures.known (segment_number g c)
+      (put ∙ ap (λ (st : StoreState). record st { staged = put_page st.staged bytes }) same) may)
+      c.stage-2.ensures.ok;
+}
 
 pub returns-clause-exact : goal.returns-clause-exact
 returns-clause-exact g c honest heads s can =
@@ -278,7 +280,7 @@ returns-clause-exact g c honest heads s can =
     let before = c.read_segment.new.page.bytes in
     let bytes = c.set_u32_at-2.new.self.bytes in
     let done = c.stage-2.ensures in
-    let reads = c.in_ok-read_segment.ensures.reads in
+    let reads = c.in_ok-read_segment.ensures.reads.only in
     let order = g.met.S.PageStore.in_order old in
     let stages = after_stage store mid new bytes c.stage-2.result (g.met.S.PageStore.counts_now new)
     done.ok done.err done.honesty done.faults done.kept in
@@ -310,7 +312,7 @@ returns-clause-set g c honest =
     let before = c.read_segment.new.page.bytes in
     let bytes = c.set_u32_at-2.new.self.bytes in
     let done = c.stage-2.ensures in
-    let reads = c.in_ok-read_segment.ensures.reads in
+    let reads = c.in_ok-read_segment.ensures.reads.only in
     let order = g.met.S.PageStore.in_order old in
     let stages = after_stage store mid new bytes c.stage-2.result (g.met.S.PageStore.counts_now new)
     done.ok done.err done.honesty done.faults done.kept in
@@ -333,30 +335,26 @@ returns-clause-set g c honest =
     )) done.ok
 
 pub returns-clause-stages : goal.returns-clause-stages
-returns-clause-stages g c =
-    let done = c.stage-2.ensures in
-    stages_then g.S.PageStore _ _ _ (g.met.S.PageStore.counts_now c.read_segment.new.store)
-    c.in_ok-read_segment.ensures.reads.stages_only
-    (after_stage g.S.PageStore c.read_segment.new.store c.stage-2.new.self
-    c.set_u32_at-2.new.self.bytes c.stage-2.result
-    (g.met.S.PageStore.counts_now c.stage-2.new.self) done.ok done.err done.honesty
-    done.faults done.kept)
-
-pub returns-clause-cause : goal.returns-clause-cause
-returns-clause-cause g c = cause_stage_last _ _ _ _ _ _ _ c.in_ok-read_segment.ensures.cause.later
-    c.stage-2.ensures.faults c.stage-2.ensures.answer
+returns-clause-stages g c = record {
+  only = let done = c.stage-2.ensures in
+      stages_then g.S.PageStore _ _ _ (g.met.S.PageStore.counts_now c.read_segment.new.store)
+      c.in_ok-read_segment.ensures.reads.only.stages_only
+      (after_stage g.S.PageStore c.read_segment.new.store c.stage-2.new.self
+      c.set_u32_at-2.new.self.bytes c.stage-2.result
+      (g.met.S.PageStore.counts_now c.stage-2.new.self) done.ok done.err done.honesty
+      done.faults done.kept);
+  cause = cause_stage_last _ _ _ _ _ _ _ c.in_ok-read_segment.ensures.reads.cause.later
+      c.stage-2.ensures.faults c.stage-2.ensures.answer;
+}
 
 pub returns-clause-answer : goal.returns-clause-answer
-returns-clause-answer g c = stage_sets_last _ _ _ _ _ _ c.in_ok-read_segment.ensures.reads.same
+returns-clause-answer g c = stage_sets_last _ _ _ _ _ _ c.in_ok-read_segment.ensures.reads.only.same
     c.stage-2.ensures.answer
 
 pub returns-clause-err_state : goal.returns-clause-err_state
 returns-clause-err_state g c =
-    on_err_weaker c.stage-2.result (λ same. same ∙ c.in_ok-read_segment.ensures.reads.same)
+    on_err_weaker c.stage-2.result (λ same. same ∙ c.in_ok-read_segment.ensures.reads.only.same)
     c.stage-2.ensures.err
-
-pub returns-clause-ends : goal.returns-clause-ends
-returns-clause-ends g c e = e
 
 pub returns-clause-whole : goal.returns-clause-whole
 returns-clause-whole g c honest heads s can damaged =

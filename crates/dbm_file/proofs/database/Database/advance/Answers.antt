@@ -27,7 +27,7 @@ returns-in-Ok-Some-clause-step g c honest h at call falls =
     _ _ (c.last-last.ensures c.requires.begun) c.next_pair.new.page.bytes c.in-Ok-Some.field-0
     all.exact in
     given_step s db _ h at call (pass_from c.args.begins db)
-    record { reads = all.reads; meta_is = refl; error_is = refl; pass_is = refl } honest
+    record { reads = all.reads.only; meta_is = refl; error_is = refl; pass_is = refl } honest
     c.requires.usable falls least.pages least.map_is _ _ least.least
     c.in-Ok-Some.slot c.pair_at.result.0.now c.in-Ok-Some.field-0-is
     (c.pair_at.ensures blank).0 c.go_behind.ensures
@@ -41,7 +41,7 @@ returns-in-Ok-None-clause-step g c honest h at call falls =
     _ _ (c.last-last.ensures c.requires.begun) c.next_pair.new.page.bytes c.in-Ok-None.field-0
     all.exact in
     ended_step s db _ h at call (pass_from c.args.begins db)
-    record { reads = all.reads; meta_is = refl; error_is = refl; pass_is = refl } honest
+    record { reads = all.reads.only; meta_is = refl; error_is = refl; pass_is = refl } honest
     c.requires.usable falls least.pages least.map_is _ _ least.least
     c.in-Ok-None.field-0-is (begins_so c.args.begins db c.if-begins.true)
 
@@ -54,7 +54,7 @@ returns-in-Ok-None-2-clause-step g c honest h at call falls =
     _ _ (c.last-last.ensures c.requires.begun) c.next_pair.new.page.bytes c.in-Ok-None.field-0
     all.exact in
     ended_step s db _ h at call (pass_from c.args.begins db)
-    record { reads = all.reads; meta_is = refl; error_is = refl; pass_is = refl } honest
+    record { reads = all.reads.only; meta_is = refl; error_is = refl; pass_is = refl } honest
     c.requires.usable falls least.pages least.map_is _ _ least.least
     c.in-Ok-None.field-0-is (goes_on_so c.args.begins db c.if-begins.false)
 
@@ -64,12 +64,12 @@ returns-in-Err-clause-step g c honest h at call falls =
     let db = c.args.self.now in
     let all = c.in-Err.ensures in
     let new = after_reads s db c.next_pair.new.store c.next_pair.new.page c.next_pair.new.ranks
-    all.reads in
+    all.reads.only in
     pass_flagged s db new h _ _ _ call c.refuse.new.error c.from.result _ c.refuse.ensures.flag
     c.from.ensures _ c.refuse.result c.refuse.ensures.answer
     (pass_failed s db new h at call (pass_from c.args.begins db) falls
-    record { reads = all.reads; meta_is = refl; error_is = refl; pass_is = refl } honest
-    c.requires.usable _ c.in-Err.fault all.answer all.cause
+    record { reads = all.reads.only; meta_is = refl; error_is = refl; pass_is = refl } honest
+    c.requires.usable _ c.in-Err.fault all.answer all.reads.cause
     (all.whole honest _ (table_at s db h at c.requires.usable (g.met.S.PageStore.ends db.store))))
 
 pub returns-in-Ok-Some-clause-passed : goal.returns-in-Ok-Some-clause-passed

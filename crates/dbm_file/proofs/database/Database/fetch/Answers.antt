@@ -157,10 +157,10 @@ returns-in-Err g c =
         readable = λ can damaged. all.readable can
             (ap Err (met_damage c.refuse-in-Err.result c.in-Err.fault fault answer
             c.from.ensures damaged));
-        memory = λ lacks. all.memory (ap Err (met_want c.refuse-in-Err.result c.in-Err.fault fault
-            answer c.from.ensures lacks));
-        far = λ lacks. all.far (ap Err (met_want c.refuse-in-Err.result c.in-Err.fault fault
-            answer c.from.ensures lacks));
+        memory = λ lacks. (all.memory (ap Err (met_want c.refuse-in-Err.result c.in-Err.fault
+            fault answer c.from.ensures lacks))).0;
+        far = λ lacks. (all.memory (ap Err (met_want c.refuse-in-Err.result c.in-Err.fault fault
+            answer c.from.ensures lacks))).1;
         only =
             only_these c.refuse-in-Err.result fault answer
             (load_faults c.in-Err.fault fault c.from.ensures all.answer.only);

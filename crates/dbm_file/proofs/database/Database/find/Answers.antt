@@ -34,21 +34,19 @@ returns-in_default-far_at-clause-exact g c honest map h =
     (is_table s db.store _ map h (g.met.S.PageStore.ends db.store) db.idle)))
 
 pub returns-in_err-read_content-clause-memory : goal.returns-in_err-read_content-clause-memory
-returns-in_err-read_content-clause-memory g c is =
-    second _ _ _ _ (held_there c.in_ok-place.field-0 c.in-Some.place c.in-Some.is
-    c.in_ok-place.ensures.held) _ _ c.in-Some-far_at.ensures
-
-pub returns-in_err-read_content-clause-far : goal.returns-in_err-read_content-clause-far
-returns-in_err-read_content-clause-far g c is honest =
-    far_key _ _ c.args.key.now _ _ c.in-Some.place _ _ c.in-Some.is c.in-Some-far_at.ensures
-    (c.in_ok-place.ensures.searched honest)
+returns-in_err-read_content-clause-memory g c is = (
+  second _ _ _ _ (held_there c.in_ok-place.field-0 c.in-Some.place c.in-Some.is
+      c.in_ok-place.ensures.held) _ _ c.in-Some-far_at.ensures,
+  λ honest. far_key _ _ c.args.key.now _ _ c.in-Some.place _ _ c.in-Some.is
+      c.in-Some-far_at.ensures (c.in_ok-place.ensures.searched honest),
+)
 
 pub returns-in_err-read_content-clause-readable : goal.returns-in_err-read_content-clause-readable
 returns-in_err-read_content-clause-readable g c can damaged =
     let s = g.S.PageStore in
     let old = c.args.self.now.store in
     let honest = can.0.0 in
-    let reads = c.in_ok-place.ensures.reads in
+    let reads = c.in_ok-place.ensures.reads.only in
     let ended = c.from_residual-in_err-read_content in
     let e = c.in_err-read_content.field-0.0 in
     let said = said_there (body_at s old) _ c.args.key.now _ _ c.in-Some.place _ _ c.in-Some.is
@@ -75,7 +73,7 @@ pub returns-in_err-read_content-clause-whole : goal.returns-in_err-read_content-
 returns-in_err-read_content-clause-whole g c honest map h is =
     let s = g.S.PageStore in
     let db = c.args.self.now in
-    let reads = c.in_ok-place.ensures.reads in
+    let reads = c.in_ok-place.ensures.reads.only in
     let ended = c.from_residual-in_err-read_content in
     let e = c.in_err-read_content.field-0.0 in
     let has = far_map (body_at s db.store) c.args.key.now _ _ _ c.in-Some.place _ _ c.in-Some.is
@@ -101,7 +99,7 @@ returns-clause-searched g c honest =
     let s = g.S.PageStore in
     let old = c.args.self.now.store in
     let there = c.in-Some.place in
-    let reads = c.in_ok-place.ensures.reads in
+    let reads = c.in_ok-place.ensures.reads.only in
     let held = held_there c.in_ok-place.field-0 there c.in-Some.is c.in_ok-place.ensures.held in
     let read = c.in_ok-read_content.ensures in
     far_content (body_at s old) _ c.args.key.now _ c.read_content.new.content.items _ there _ _
@@ -113,7 +111,7 @@ pub returns-clause-exact : goal.returns-clause-exact
 returns-clause-exact g c honest map h =
     let s = g.S.PageStore in
     let db = c.args.self.now in
-    let reads = c.in_ok-place.ensures.reads in
+    let reads = c.in_ok-place.ensures.reads.only in
     let has = far_map (body_at s db.store) c.args.key.now _ _ _ c.in-Some.place _ _ c.in-Some.is
     c.in-Some-far_at.ensures (found_for s db.store _ map h c.args.key.now _ _
     (c.in_ok-place.ensures.exact honest (placed s db.store _ map h)

@@ -20,8 +20,8 @@ returns-in_err-place g c =
     let e = c.in_err-place.field-0.0 in
     let exit = exit_is ended e c.from_residual.ensures.1 in
     record {
-      reads = record { reads = all.reads; meta_is = refl; error_is = refl; pass_is = refl };
-      cause = cause_first ended e exit _ _ all.cause;
+      reads = record { reads = all.reads.only; meta_is = refl; error_is = refl; pass_is = refl };
+      cause = cause_first ended e exit _ _ all.reads.cause;
       answer = walk_passed _ _ refl ended e exit all.answer;
       searched = IfOk-from_err _ _ c.from_residual.ensures.0;
       exact = λ honest map h. IfOk-from_err _ _ c.from_residual.ensures.0;
@@ -36,8 +36,8 @@ returns g c =
     let store = c.args.self.now.store in
     let all = c.in_ok-place.ensures in
     record {
-      reads = record { reads = all.reads; meta_is = refl; error_is = refl; pass_is = refl };
-      cause = cause_ok _ _ c.is_some.result all.cause.later;
+      reads = record { reads = all.reads.only; meta_is = refl; error_is = refl; pass_is = refl };
+      cause = cause_ok _ _ c.is_some.result all.reads.cause.later;
       answer = walk_was c.is_some.result;
       searched = λ honest. searched_for _ _ c.args.key.now _ c.in_ok-place.place c.is_some.result
           c.is_some.ensures (all.searched honest);

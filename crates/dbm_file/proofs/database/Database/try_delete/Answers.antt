@@ -21,7 +21,7 @@ use Rattle.dbm_file.proofs.BucketSteps.{none_opened}
 use Rattle.dbm_file.proofs.Refused.{as_change, walk_no_memory}
 use Rattle.dbm_file.proofs.Done.{was_deleted}
 use Rattle.dbm_file.proofs.Searches.{was_absent}
-use Rattle.dbm_file.proofs.StoreSteps.{delete_asked, no_key, delete_told}
+use Rattle.dbm_file.proofs.StoreSteps.{delete_asked, no_key, reply_to_delete}
 use Rattle.dbm_file.proofs.database.Database.try_delete.Goals as goal
 
 pub returns-then-is_broken : goal.returns-then-is_broken
@@ -72,7 +72,7 @@ returns-in_err-has g c =
       step = λ honest h at.
           let map = h.state.map in
           let falls = delete_rule (handle_of db map) key usable writable in
-          from_own at (delete_told c.has.new.self c.in_err-has.field-0.0
+          from_own at (reply_to_delete c.has.new.self c.in_err-has.field-0.0
           (walk_failed_step s db c.has.new.self map _ c.in_err-has.ensures.reads honest
           (at.map usable) (at.rests usable)
           _ c.in_err-has.field-0.0 usable c.in_err-has.ensures.answer c.in_err-has.ensures.cause
@@ -154,7 +154,7 @@ returns-in_err-delete_pair g c =
           writable honest (at.map usable) (at.rests usable) there in
           let turns = turns_to s asked c.delete_pair.new.store _
           (all.turns (mid_honest s asked) (mid_usable s asked) map (mid_holds s asked) there) in
-          from_own at (delete_told _ c.in_err-delete_pair.field-0.0
+          from_own at (reply_to_delete _ c.in_err-delete_pair.field-0.0
           (refused_step s asked _ c.in_err-delete_pair.field-0.0
           record { ends = all.ends; error_is = refl; pass_is = refl } _ turns
           (λ t x le left. g.met.S.PageStore.counts_now c.delete_pair.new.store t x

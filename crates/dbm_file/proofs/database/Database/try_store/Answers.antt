@@ -23,7 +23,7 @@ use Rattle.dbm_file.proofs.BucketSteps.{store_opens, would_take, may_need}
 use Rattle.dbm_file.proofs.Refused.{as_change, walk_no_memory}
 use Rattle.dbm_file.proofs.Done.{was_put}
 use Rattle.dbm_file.proofs.Searches.{was_found}
-use Rattle.dbm_file.proofs.StoreSteps.{store_asked, store_told, inserts_so, replaces_so}
+use Rattle.dbm_file.proofs.StoreSteps.{store_asked, reply_to_store, inserts_so, replaces_so}
 use Rattle.linear_hash.proofs.Tables.{counted}
 use Rattle.dbm_file.proofs.database.Database.try_store.Goals.{else-was_there-via-then-was_there+else-eq, else-was_there-via-else-was_there, else-not-was_there-via-then-not-was_there+else-self, else-not-was_there-via-else-not-was_there}
 use Rattle.dbm_file.proofs.database.Database.try_store.Goals as goal
@@ -109,7 +109,7 @@ returns-in_err-was_there g c =
           let held = at.map usable in
           let state = (handle_of db map).state in
           let falls = store_rule (handle_of db map) key content (mode_of mode) usable writable short in
-          from_own at (store_told c.has.new.self c.in_err-was_there.field-0.0
+          from_own at (reply_to_store c.has.new.self c.in_err-was_there.field-0.0
           (walk_failed_step s db c.has.new.self map _ c.in_err-was_there.ensures.reads honest
           held (at.rests usable)
           _ c.in_err-was_there.field-0.0 usable c.in_err-was_there.ensures.answer
@@ -226,7 +226,7 @@ returns-in_err-store_pair g c =
           short there replaces few in
           let turns = turns_to s asked c.store_pair.new.store _
           (all.turns (mid_honest s asked) (mid_usable s asked) map (mid_holds s asked) there) in
-          from_own at (store_told _ c.in_err-store_pair.field-0.0
+          from_own at (reply_to_store _ c.in_err-store_pair.field-0.0
           (refused_step s asked _ c.in_err-store_pair.field-0.0
           record { ends = all.ends; error_is = refl; pass_is = refl } _ turns
           (λ t x le left. g.met.S.PageStore.counts_now c.store_pair.new.store t x

@@ -13,7 +13,7 @@ use Rattle.dbm_file.proofs.Cases.{broken_upgrade, upgrade_read_only, second_rule
 use Rattle.dbm_file.proofs.ChangeSteps.{mid_honest, mid_usable, mid_holds, changed_step, no_growth, refused_step}
 use Rattle.dbm_file.proofs.ReadSteps.{from_own, no_read, not_broken, broken_step, rejected_step, told_step_of}
 use Rattle.dbm_file.proofs.RefusedChanges.{told_keeps}
-use Rattle.dbm_file.proofs.UpgradeSteps.{is_second, is_first, upgrade_asked, upgrade_told, told_upgrade}
+use Rattle.dbm_file.proofs.UpgradeSteps.{is_second, is_first, upgrade_asked, reply_to_upgrade, told_upgrade}
 use Rattle.dbm_file.proofs.database.Database.try_upgrade.Goals as goal
 
 pub returns-then-is_broken-clause-step : goal.returns-then-is_broken-clause-step
@@ -75,7 +75,7 @@ returns-in_err-upgrade-clause-step g c honest h at =
     (db.told ∙ c.if-not-self.false) honest (at.map usable) (at.rests usable)
     (is_first db.meta.version c.if-eq.ensures) room in
     let turns = all.turns (mid_honest s asked) (mid_usable s asked) map (mid_holds s asked) in
-    from_own at (upgrade_told _ e
+    from_own at (reply_to_upgrade _ e
     (refused_step s asked _ e record { ends = all.ends; error_is = refl; pass_is = refl } _ turns
     (λ t x le left. g.met.S.PageStore.counts_now c.upgrade.new.store t x
     (all.ends.honesty.1 (mid_honest s asked)) le left)

@@ -32,7 +32,7 @@ returns-in_err-verify-clause-counts g c honest h at usable =
 pub returns-in_err-verify-clause-stays : goal.returns-in_err-verify-clause-stays
 returns-in_err-verify-clause-stays g c honest h at =
     stays_at g.S.PageStore c.args.self.now _ record {
-      reads = c.in_err-verify.ensures.reads;
+      reads = c.in_err-verify.ensures.reads.only;
       meta_is = refl;
       error_is = refl;
       pass_is = refl;
@@ -60,7 +60,7 @@ returns-clause-counts g c honest h at usable =
 pub returns-clause-stays : goal.returns-clause-stays
 returns-clause-stays g c honest h at =
     stays_at g.S.PageStore c.args.self.now _ record {
-      reads = c.in_ok-verify.ensures.reads;
+      reads = c.in_ok-verify.ensures.reads.only;
       meta_is = refl;
       error_is = refl;
       pass_is = refl;
@@ -70,7 +70,7 @@ pub returns-clause-begins : goal.returns-clause-begins
 returns-clause-begins g c honest writable =
     let s = g.S.PageStore in
     let store = c.args.self.now.store in
-    let reads = c.in_ok-verify.ensures.reads in
+    let reads = c.in_ok-verify.ensures.reads.only in
     let pairs = c.in_ok-verify.field-0 in
     stands_with s c.args.self.now _ pairs reads honest
     (file_read s store c.args.self.now.idle (g.met.S.PageStore.ends store) pairs

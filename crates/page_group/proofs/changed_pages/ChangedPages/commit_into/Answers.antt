@@ -12,7 +12,7 @@ finish-requires g c =
     let old = c.args.store.now in
     let ends = all_staged c.stage_into.result (s.state old) (s.state c.stage_into.new.store)
     (changed_pages c.args.self.now) c.args.new_end c.requires.whole c.requires.longer
-    c.stage_into.ensures.stages.state c.stage_into.ensures.staged in
+    c.stage_into.ensures.stages.only.state c.stage_into.ensures.staged in
     may_commit (s.state c.stage_into.new.store) 1 c.args.new_end
     (of_ok _ c.stage_into.result c.if-is_err.ensures.value ends)
     (sym c.is_staged.ensures ∙ c.if-not-is_staged.false)
@@ -42,7 +42,7 @@ returns-then-is_err-clause-any_moment g c honest =
     let laws = g.met.S.PageStore in
     let old = c.args.store.now in
     let mid = c.stage_into.new.store in
-    let stages = c.stage_into.ensures.stages in
+    let stages = c.stage_into.ensures.stages.only in
     let staged_honest = stages.honesty.1 honest in
     kept_either s.committed s.moment s.settled_since s.settles_to old c.unstage.new.self _
     (λ y is. laws.only_committed old y honest c.requires.ready.usable c.requires.ready.writable is)
@@ -56,7 +56,7 @@ returns-in-Ok-clause-any_moment g c honest =
     let mid = c.stage_into.new.store in
     commit_leaves g.S.PageStore old mid c.finish.new.store (g.S.PageStore.state mid).staged
     (changed_pages c.args.self.now) c.args.new_end (g.met.S.PageStore.only_committed old)
-    c.stage_into.ensures.stages c.finish.ensures.any_moment honest c.requires.ready.usable
+    c.stage_into.ensures.stages.only c.finish.ensures.any_moment honest c.requires.ready.usable
     c.requires.ready.writable
     (of_ok _ c.stage_into.result c.if-is_err.ensures.value c.stage_into.ensures.staged)
 
@@ -66,7 +66,7 @@ returns-in-Err-clause-any_moment g c honest =
     let mid = c.stage_into.new.store in
     commit_leaves g.S.PageStore old mid c.finish.new.store (g.S.PageStore.state mid).staged
     (changed_pages c.args.self.now) c.args.new_end (g.met.S.PageStore.only_committed old)
-    c.stage_into.ensures.stages c.finish.ensures.any_moment honest c.requires.ready.usable
+    c.stage_into.ensures.stages.only c.finish.ensures.any_moment honest c.requires.ready.usable
     c.requires.ready.writable
     (of_ok _ c.stage_into.result c.if-is_err.ensures.value c.stage_into.ensures.staged)
 
@@ -76,7 +76,7 @@ returns-in-Err-2-clause-any_moment g c honest =
     let mid = c.stage_into.new.store in
     commit_leaves g.S.PageStore old mid c.finish.new.store (g.S.PageStore.state mid).staged
     (changed_pages c.args.self.now) c.args.new_end (g.met.S.PageStore.only_committed old)
-    c.stage_into.ensures.stages c.finish.ensures.any_moment honest c.requires.ready.usable
+    c.stage_into.ensures.stages.only c.finish.ensures.any_moment honest c.requires.ready.usable
     c.requires.ready.writable
     (of_ok _ c.stage_into.result c.if-is_err.ensures.value c.stage_into.ensures.staged)
 
@@ -85,7 +85,7 @@ returns-in-Err-2-clause-refused g c is =
     let s = g.S.PageStore in
     let laws = g.met.S.PageStore in
     let mid = c.stage_into.new.store in
-    let stages = c.stage_into.ensures.stages in
+    let stages = c.stage_into.ensures.stages.only in
     let usable = is_usable (s.state c.finish.new.store).usable c.if-is_broken.ensures.1 in
     refused_reads s c.args.store.now mid c.finish.new.store laws.counts_now
     (λ h. laws.committed_may_stay mid h

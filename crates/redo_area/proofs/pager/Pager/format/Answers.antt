@@ -20,11 +20,11 @@ invariant_of-result-clause-settles g c still usable =
     let new = c.format_pages.new.dev in
     let kept = c.new-2.result.items in
     let none : kept ≡ [] = c.new-2.ensures.items in
-    let honest = c.format_pages.ensures.honesty.0 still in
+    let honest = c.format_pages.ensures.device.honesty.0 still in
     let count = length c.args.pages.now in
     let at_rest = λ (cap end : ℕ). IsAtRest cap end (dev.candidate new) (dev.seen new) in
     let same : dev.sectors c.args.dev / 4 ≡ dev.sectors new / 4 =
-    ap (λ (s : ℕ). s / 4) (sym c.format_pages.ensures.size) in
+    ap (λ (s : ℕ). s / 4) (sym c.format_pages.ensures.device.size) in
     let ends : 1 + count ≡ count + 1 = omega arith in
     let rest = from_test c.format_pages.result c.is_err.ensures.value c.if-is_err.false
     (c.format_pages.ensures.rest honest) in

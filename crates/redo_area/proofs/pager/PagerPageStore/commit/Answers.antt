@@ -1,4 +1,5 @@
-use Rattle.std.proofs.Common.{◌≡◌, ◌≤◌, ◌/◌, ℕ, List, length, take, inl, true, refl, sym, ◌∙◌, ap, subst}
+use Rattle.std.proofs.Common.{◌≡◌, ◌≤◌, ◌/◌, ℕ, List, length, take, inl, true, refl, sym, ◌∙◌, ap, subst, arith}
+use Rattle.std.proofs.lemmas.List.{length-map}
 use Rattle.sect_dev.specs.Moments.{started}
 use Rattle.page_io.specs.Store.{file_of, IsEither, bytes_of, are_in_order, committed_with}
 use Rattle.page_io.specs.declared.page.Page.{Page}
@@ -28,17 +29,25 @@ returns-then-len-room-clause-any_moment g c honest usable writable =
       reads = refl;
     }))))
 
-pub arm_over-armed-requires-clause-in_order : goal.arm_over-armed-requires-clause-in_order
-arm_over-armed-requires-clause-in_order g c =
-    subst (λ (ps : List Page). are_in_order 1 c.args.new_end (bytes_of ps) ≡ true)
-    (sym c.as_slice-pages.ensures)
-    (order_below 1 4294967296 c.args.new_end (bytes_of c.args.self.now.staged.items)
-    c.args.self.now.order c.requires.below)
+pub arm_over-armed-requires-clause-pages : goal.arm_over-armed-requires-clause-pages
+arm_over-armed-requires-clause-pages g c = record {
+  some = omega (
+    arith,
+    c.requires.some,
+    length-map c.args.self.now.staged.items (λ (p : Page). p.bytes),
+    ap length c.as_slice-pages.ensures,
+  );
+  least = c.requires.least;
+  in_order = subst (λ (ps : List Page). are_in_order 1 c.args.new_end (bytes_of ps) ≡ true)
+      (sym c.as_slice-pages.ensures)
+      (order_below 1 4294967296 c.args.new_end (bytes_of c.args.self.now.staged.items)
+      c.args.self.now.order c.requires.below);
+}
 
 pub returns-in_default-clause-any_moment : goal.returns-in_default-clause-any_moment
 returns-in_default-clause-any_moment g c honest usable writable =
     commit_leaves g.D.SectorDev c.args.self.now _ c.args.new_end c.as_slice-waiting.result.now
-    c.as_slice-pages.result.now c.arm_over-armed.ensures.size c.as_slice-waiting.ensures
+    c.as_slice-pages.result.now c.arm_over-armed.ensures.device.size c.as_slice-waiting.ensures
     c.as_slice-pages.ensures (c.arm_over-armed.ensures.any_moment honest)
 
 -- the pages of the images wait
@@ -52,8 +61,8 @@ invariant_of-self-2-clause-settles g c still usable =
     let armed = λ (cap : ℕ) (pages : List Page). IsArmed cap c.args.new_end start
     (bytes_of (take c.in-Ok.armed.images pages)) (dev.candidate new) (dev.seen new) in
     let same : dev.sectors old.dev / 4 ≡ dev.sectors new / 4 =
-    ap (λ (s : ℕ). s / 4) (sym c.arm_over-armed.ensures.size) in
-    let is_armed = c.in-Ok.ensures.armed (c.arm_over-armed.ensures.honesty.0 still) in
+    ap (λ (s : ℕ). s / 4) (sym c.arm_over-armed.ensures.device.size) in
+    let is_armed = c.in-Ok.ensures.armed (c.arm_over-armed.ensures.device.honesty.0 still) in
     subst (λ ps. SettlesToPages old.writable (dev.sectors new / 4) c.args.new_end start
     (bytes_of ps) (dev.candidate new) (dev.seen new))
     (sym (c.hand_over.ensures.given ∙ c.truncate.ensures.items))
@@ -76,5 +85,5 @@ invariant_of-self-2-clause-rising g c =
 pub returns-clause-any_moment : goal.returns-clause-any_moment
 returns-clause-any_moment g c honest usable writable =
     commit_leaves g.D.SectorDev c.args.self.now _ c.args.new_end c.as_slice-waiting.result.now
-    c.as_slice-pages.result.now c.arm_over-armed.ensures.size c.as_slice-waiting.ensures
+    c.as_slice-pages.result.now c.arm_over-armed.ensures.device.size c.as_slice-waiting.ensures
     c.as_slice-pages.ensures (c.arm_over-armed.ensures.any_moment honest)

@@ -113,7 +113,7 @@ returns-then-is_err-clause-kept g c honest =
       committed = ap (λ (s : Image). file_pages (overlaid (bytes_of old.waiting.items) (page_at s))
           old.end) (page.seen honest);
       still = page.still;
-      any_moment = read_leaves g.D.SectorDev old _ page.size (page.any_moment honest);
+      any_moment = read_leaves g.D.SectorDev old _ page.device.size (page.any_moment honest);
     }
 
 pub returns-then-is_err-clause-only_reads : goal.returns-then-is_err-clause-only_reads
@@ -136,7 +136,7 @@ returns-clause-kept g c honest =
       committed = ap (λ (s : Image). file_pages (overlaid (bytes_of old.waiting.items) (page_at s))
           old.end) (page.seen honest);
       still = page.still;
-      any_moment = read_leaves g.D.SectorDev old _ page.size (page.any_moment honest);
+      any_moment = read_leaves g.D.SectorDev old _ page.device.size (page.any_moment honest);
     }
 
 pub returns-clause-only_reads : goal.returns-clause-only_reads

@@ -1,7 +1,7 @@
 use Rattle.std.proofs.Common.{refl, sym, inl, ◌∙◌, arith}
 use Rattle.sect_dev.specs.Failing.{inner_of}
 use Rattle.sect_dev.proofs.Results.{on_err}
-use Rattle.sect_dev.proofs.Refusing.{no_ok, cause_beside, refused_by_plan}
+use Rattle.sect_dev.proofs.Refusing.{no_ok, cause_beside, refused_by_schedule}
 use Rattle.sect_dev.proofs.failing.FailingSectorDev.sync.Goals as goal
 
 pub returns-then-count : goal.returns-then-count
@@ -27,7 +27,7 @@ returns-then-count g c =
           c.refuse.result refused.cause;
       quiet = no_ok c.refuse.result _ refused.fails;
       size = refl;
-      plan = refused_by_plan g.P.Plan.fails D.faults c.args.self.now _ c.refuse.result
+      schedule = refused_by_schedule g.P.Schedule.fails D.faults c.args.self.now _ c.refuse.result
           (sym c.if-count.true ∙ c.count.ensures.now) refused.fails refused.count
           c.count.ensures.next;
       kept = λ _. refl;

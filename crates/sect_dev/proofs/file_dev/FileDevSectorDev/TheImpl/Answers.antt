@@ -2,7 +2,7 @@ use Rattle.std.proofs.Common.{◌*◌, ◌%◌, ℕ, is_ok, inr, ap, arith}
 use Rattle.std.proofs.lemmas.Result.{on_ok_weaker, on_err_weaker}
 use Rattle.sect_dev.specs.FileHistory.{history_of}
 use Rattle.sect_dev.specs.FileHistory.Change.{Writes, Syncs}
-use Rattle.sect_dev.proofs.FileHistory.{honesty, time, same_seen, none_added, none_removed, change_time, one_change_more, run_seen, run_failed, run_adds, run_removes_none, sync_settles, sync_seen, sync_adds_none, sync_failed}
+use Rattle.sect_dev.proofs.FileHistory.{honesty, time, same_seen, none_added, none_removed, change_time, one_change_more, run_seen, run_failed, run_adds, run_removes_none, sync_is_stable, sync_seen, sync_adds_none, sync_failed}
 use Rattle.sect_dev.proofs.OneSector.{one_candidate, one_written, one_failed}
 use Rattle.sect_dev.proofs.file_dev.FileDevSectorDev.TheImpl.Goals as goal
 
@@ -111,7 +111,7 @@ sync-tells c =
     let old = c.args.self.now in
     let new = c.new.self.now in
     record {
-      stable = sync_settles c.result old.file new.file old.changes new.changes
+      stable = sync_is_stable c.result old.file new.file old.changes new.changes
           goes.file goes.answered;
       seen = sync_seen c.result old.file new.file old.changes new.changes goes.file goes.answered;
       candidates = sync_adds_none c.result old.file new.file old.changes new.changes

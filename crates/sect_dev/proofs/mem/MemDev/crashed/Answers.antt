@@ -19,7 +19,7 @@ add_marked-requires c =
 pub returns-clause-seen : goal.returns-clause-seen
 returns-clause-seen c =
     let dev = c.args.self.now in
-    ap content_after c.settle.ensures.record ∙ c.in_ok-add_marked.ensures.ok
+    ap content_after c.make_stable.ensures.record ∙ c.in_ok-add_marked.ensures.ok
     ∙ ap (λ (l : List Event). kept l c.args.keep.now)
     (joined dev.unsynced.items (history dev) dev.unsynced_are c.as_slice.result.now
     (history c.in_ok-after.after) c.as_slice.ensures.value c.in_ok-after.ensures.record)
@@ -34,7 +34,7 @@ returns-clause-moment c =
     let dev = c.args.self.now in
     omega (
       arith,
-      ap (λ (l : List Event). length l) c.settle.ensures.record,
+      ap (λ (l : List Event). length l) c.make_stable.ensures.record,
       c.in_ok-add_marked.ensures.most,
       ap (λ (l : List Event). length l) c.in_ok-after.ensures.record,
       last_and_pending (history dev),

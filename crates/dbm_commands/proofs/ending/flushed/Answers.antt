@@ -1,8 +1,0 @@
-use Rattle.std.proofs.Common.{rules}
-use Rattle.dbm_commands.proofs.ending.flushed.Goals as goal
-
-pub returns-clause-failed : goal.returns-clause-failed
-returns-clause-failed c = search rules
-
-pub returns-in_err-map_err-clause-failed : goal.returns-in_err-map_err-clause-failed
-returns-in_err-map_err-clause-failed c = search rules

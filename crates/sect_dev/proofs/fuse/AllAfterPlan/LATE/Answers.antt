@@ -1,5 +1,0 @@
-use Rattle.std.proofs.Common.{refl}
-use Rattle.sect_dev.proofs.fuse.AllAfterPlan.LATE.Goals as goal
-
-pub returns : goal.returns
-returns c = refl
