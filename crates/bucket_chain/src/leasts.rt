@@ -1,6 +1,6 @@
 //! The next key of a pass in a chain.
 
-ghost use Rattle.std.specs.Prelude.{◌≡◌, ◌↔◌, ◌++◌, ◌<◌, ℕ, List, map, length, option_copied, IfOk, IfSome, IfNone, IsErrOf, IsTrue};
+ghost use Rattle.std.specs.Prelude.{◌≡◌, ◌↔◌, ◌++◌, ◌<◌, ℕ, List, map, option_copied, IfOk, IfSome, IfNone, IsErrOf, IsTrue};
 ghost use Rattle.dbm_model.specs.KeyOrder.{ComesBefore};
 ghost use Rattle.dbm_model.specs.Pairs.{Key, Pair};
 ghost use Rattle.dbm_model.specs.Steps.{IsAhead};

@@ -15,7 +15,6 @@ ghost use Rattle.slot_page.specs.Contents.{IsAbsent};
 ghost use Rattle.bucket_chain.specs.WalkAnswers.{IsWalkAnswer};
 ghost use Rattle.bucket_chain.specs.Chains.{IsChainAt};
 ghost use Rattle.bucket_chain.specs.Pairs.{record_as, IsSmall};
-ghost use Rattle.bucket_chain.specs.Walks.{IsRoomWalk};
 ghost use Rattle.bucket_chain.specs.Answers.{IsPutAnswer};
 ghost use Rattle.bucket_chain.specs.AnyFile.{IsAdded, IsPut};
 ghost use Rattle.bucket_chain.specs.Changes.{BecomesPlaced, AreHeld, put_in, put_pair, ForEachPlaced};

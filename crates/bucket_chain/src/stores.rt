@@ -13,7 +13,7 @@ ghost use Rattle.bucket_chain.specs.Pairs.{record_as, IsSmall};
 ghost use Rattle.bucket_chain.specs.Walks.{IsReadToEnd};
 ghost use Rattle.bucket_chain.specs.AnyFile.{IsEmptied, AreAdded, AreStored};
 ghost use Rattle.bucket_chain.specs.Answers.{IsStoreAnswer};
-ghost use Rattle.bucket_chain.specs.Changes.{Placed, IsPlaced, AreHeld, HaveKeysOnce, BecomesPlaced, IsCleared, IsPutAll, store_in, ForEachPlaced};
+ghost use Rattle.bucket_chain.specs.Changes.{IsPlaced, AreHeld, HaveKeysOnce, BecomesPlaced, IsCleared, IsPutAll, store_in, ForEachPlaced};
 ghost use Rattle.bucket_chain.specs.Giving.{AreOverflowGiven};
 
 use crate::Pair;

@@ -1,6 +1,6 @@
 //! Taking pages for a content, and writing it.
 
-ghost use Rattle.std.specs.Prelude.{◌≡◌, ◌≢◌, ◌+◌, ◌*◌, ◌<◌, ◌≤◌, [], ℕ, List, length, take as first_part, AllPairs, OnOk, OnErr, IfOk, IsErrOf};
+ghost use Rattle.std.specs.Prelude.{◌≡◌, ◌≢◌, ◌+◌, ◌*◌, ◌<◌, ◌≤◌, [], ℕ, List, length, take as first_part, AllPairs, OnOk, IfOk, IsErrOf};
 ghost use Rattle.std.specs.List.{AllByRecursion};
 ghost use Rattle.page_model.specs.Chain.{pages_long};
 ghost use Rattle.page_model.specs.PageBodies.{first_of, filled, content_bodies};

@@ -2,7 +2,7 @@
 ghost use Rattle.std.specs.Prelude.{◌≡◌, ℕ, ◌∷◌, [], Err, IfOk, length};
 ghost use Rattle.dbm_fault.specs.Among.{IsErrAmong};
 ghost use Rattle.dbm_file.specs.Database.{store_of, page_state};
-ghost use Rattle.dbm_file.specs.Verifying.{IsFileOf, IsReadThrough};
+ghost use Rattle.dbm_file.specs.Verifying.{IsFileOf};
 
 use dbm_fault::{EngineFault, Fault};
 use dbm_file::{Database, Flaw, Watch};

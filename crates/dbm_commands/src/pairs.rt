@@ -1,5 +1,5 @@
 // The commands on one pair, and on the whole database.
-ghost use Rattle.std.specs.Prelude.{◌≡◌, ◌≢◌, ◌≤◌, Ok, Err, IfOk, IfSome, length};
+ghost use Rattle.std.specs.Prelude.{◌≡◌, ◌≢◌, Ok, Err};
 ghost use Rattle.dbm_file.specs.Replies.{told_of_store, told_of_delete, told_of_upgrade, told_of_bytes};
 ghost use Rattle.dbm_file.specs.declared.calls.Call.TheVariants.{Store, Fetch, Delete, Upgrade};
 ghost use Rattle.dbm_file.specs.declared.calls.Reply.TheVariants.{NoRecord};

@@ -1,5 +1,5 @@
 // A database over a store of pages.
-ghost use Rattle.std.specs.Prelude.{◌≡◌, [], true, is_some, if◌then◌else◌, Err, Some, ◌∷◌};
+ghost use Rattle.std.specs.Prelude.{◌≡◌, [], true, is_some, if◌then◌else◌, Err, Some};
 ghost use Rattle.dbm_fault.specs.Among.{IsErrAmong};
 ghost use Rattle.page_model.specs.Valid.{IsMeta};
 ghost use Rattle.seg_table.specs.MetaPages.{model_meta};

@@ -1,7 +1,7 @@
 //! Stores of many pairs in one commit.
 ghost use Rattle.std.specs.Prelude.{◌≡◌, ◌↔◌, ◌≤◌, true, false, Some, Ok, Err, IfOk, IfErr, length, map, take, [], ◌∷◌};
 ghost use Rattle.dbm_fault.specs.Among.{IsErrAmong};
-ghost use Rattle.page_group.specs.Base.{MayBegin};
+ghost use Rattle.page_io.specs.Store.{IsReady};
 ghost use Rattle.page_model.specs.Valid.{IsMeta};
 ghost use Rattle.seg_table.specs.MetaPages.{model_meta};
 ghost use Rattle.dbm_file.specs.Answers.{IsSameDatabase};
@@ -97,7 +97,7 @@ fn store_lent<'a, S: PageStore, L: Loan<S>>(
 ) -> Grouped<'a, S>
     requires same { base.ghost_name ≡ L.name }
     requires lent { L.began ≡ Some base.old }
-    requires ready { MayBegin (S.state base.old) }
+    requires ready { IsReady (S.state base.old) }
     requires valid { IsMeta (model_meta meta.old) }
     ensures same { result.base.ghost_name ≡ base.entry.ghost_name }
     ensures ends { EndsLent S.PageStore base.old result.base.now meta.old meta.new
@@ -152,7 +152,7 @@ fn group_over<'a, S: PageStore, L: Loan<S>>(
 ) -> Database<GroupPages<'a, S, L>>
     requires same { base.ghost_name ≡ L.name }
     requires lent { L.began ≡ Some base.old }
-    requires ready { MayBegin (S.state base.old) }
+    requires ready { IsReady (S.state base.old) }
     requires valid { IsMeta (model_meta meta.now) }
     ensures begins { IsBegun S.PageStore base.old (model_meta meta.now) result }
     ensures is_at { BeginsAt S.PageStore base.old (model_meta meta.now) result }

@@ -1,6 +1,6 @@
 //! Opening a device, and closing it.
 
-ghost use Rattle.std.specs.Prelude.{◌≡◌, ◌≢◌, ◌⊎◌, ◌↔◌, ◌≤◌, ◌<◌, ◌/◌, ℕ, IfOk, IfErr, IfSome, OnOk, None, Err, true, false, [], ◌∷◌};
+ghost use Rattle.std.specs.Prelude.{◌≡◌, ◌≢◌, ◌⊎◌, ◌↔◌, ◌≤◌, ◌<◌, ◌/◌, IfOk, IfErr, IfSome, OnOk, None, Err, true, false, [], ◌∷◌};
 ghost use Rattle.std.specs.FinMap.{empty};
 ghost use Rattle.dbm_model.specs.Bounds.{Bounds};
 ghost use Rattle.sect_dev.specs.Device.{Image, IsImageOf, IsStable, LeavesOnly, MoreFaults};

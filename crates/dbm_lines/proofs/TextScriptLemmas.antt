@@ -7,7 +7,7 @@ use Rattle.std.proofs.lemmas.Bool.{le-leb, lt-leb}
 use Rattle.std.proofs.lemmas.List.{append_cancel_right}
 use Rattle.std.proofs.lemmas.List.Elements.{All-append, All-nil}
 use Rattle.hex.specs.Hex.{encode_lower}
-use Rattle.dbm_model.specs.Calls.{Call, Fault, Absent, Bytes, NoRecord, End, Refused}
+use Rattle.dbm_model.specs.Calls.{Call, Fault, Bytes, Refused}
 use Rattle.dbm_model.specs.Calls as fault
 use Rattle.dbm_lines.specs.Escapes.{escaped, unescaped, marked, fields_in, longest_text_line}
 use Rattle.dbm_lines.specs.EscapeTexts.{IsPrintable}

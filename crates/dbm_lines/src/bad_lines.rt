@@ -1,7 +1,7 @@
 // Why a line says no pair.
-ghost use Rattle.std.specs.Prelude.{◌≡◌, ◌⊎◌, ◌↔◌, ◌∷◌, [], IfSome, IfNone, IsTrue, None};
+ghost use Rattle.std.specs.Prelude.{◌≡◌, ◌⊎◌, ◌↔◌, ◌∷◌, [], IsTrue, None};
 ghost use Rattle.dbm_lines.specs.Words.{word_bytes};
-ghost use Rattle.dbm_lines.specs.BadLines.{HasPart, IsBadBy, IsBadPart, IsOddWord, parts_in};
+ghost use Rattle.dbm_lines.specs.BadLines.{HasPart, IsBadBy, IsBadPart, IsOddWord};
 ghost use Rattle.dbm_lines.specs.Forms.{pair_in};
 
 use crate::bounds::longest_in;

@@ -1,5 +1,5 @@
 // The calls of a script.
-ghost use Rattle.std.specs.Prelude.{◌≡◌, ◌∷◌, [], OnOk, IfOk, IfErr, IfSome, Some, map};
+ghost use Rattle.std.specs.Prelude.{◌≡◌, [], OnOk, IfOk, IfSome, Some, map};
 ghost use Rattle.std.specs.Option.{option_map};
 ghost use Rattle.std.specs.Io.KnownBytes.{Appends};
 ghost use Rattle.dbm_fault.specs.Among.{IsErrAmong};

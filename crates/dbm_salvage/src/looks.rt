@@ -1,6 +1,6 @@
 //! What a page is by its own bytes.
 
-ghost use Rattle.std.specs.Prelude.{◌≡◌, ◌↔◌, ◌<◌, ◌⊎◌, ◌≢◌, ℕ, IsTrue, IsFalse, IfErr, OnOk, Ok, true, false, [], slice_index};
+ghost use Rattle.std.specs.Prelude.{◌≡◌, ◌↔◌, ◌<◌, ◌⊎◌, ◌≢◌, IsTrue, IsFalse, IfErr, OnOk, Ok, true, false, []};
 ghost use Rattle.page_model.specs.Meaning.{records_on};
 ghost use Rattle.page_model.specs.Reading.{kind_of, body_of};
 ghost use Rattle.page_io.specs.BucketPages.{IsBucketPage, page_records};
@@ -8,7 +8,7 @@ ghost use Rattle.dbm_salvage.specs.Salvage.{ReadsAs, IsNoPage};
 
 use crate::trouble::Trouble;
 use free_pages::read_free;
-use page_io::{PAGE_LEN, Page, Version};
+use page_io::{PAGE_LEN, Page, Version, are_bytes};
 use seg_table::read_meta;
 use slot_page::is_bucket_page;
 
@@ -24,11 +24,6 @@ const OVERFLOW: u8 = 4;
 const FREE: u8 = 5;
 
 const CONTENT: u8 = 6;
-
-// A proof learns here that bytes are below 256.
-fn are_bytes(bytes: &[u8])
-    ensures { (k : ℕ) → slice_index bytes.now k < 256 }
-{}
 
 // Whether a page of this kind reads as page n.
 fn is_meta(page: &Page, n: u32) -> bool

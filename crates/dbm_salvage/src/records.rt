@@ -1,6 +1,6 @@
 //! The pairs of a bucket page.
 
-ghost use Rattle.std.specs.Prelude.{◌≡◌, ◌⊎◌, ◌*◌, if◌then◌else◌, ◌≤◌, ◌<◌, ℕ, List, true, Some, None, IsTrue, IsFalse, OnOk, IfOk, IfErr, IsErrOf, length, vec_capacity, slice_index};
+ghost use Rattle.std.specs.Prelude.{◌≡◌, ◌⊎◌, ◌*◌, if◌then◌else◌, ◌≤◌, ◌<◌, ℕ, List, true, Some, None, IsTrue, IsFalse, OnOk, IfOk, IfErr, IsErrOf, length, vec_capacity};
 ghost use Rattle.std.specs.List.{HoldsAt};
 ghost use Rattle.std.specs.Option.{is_none};
 ghost use Rattle.std.specs.Io.KnownBytes.{Appends};
@@ -21,7 +21,7 @@ use crate::trouble::Trouble;
 use dbm_fault::EngineFault;
 use dbm_lines::{write_bytes, write_word};
 use dbm_progress::{Progress, Work};
-use page_io::Page;
+use page_io::{Page, are_bytes};
 use sect_dev::SectorDev;
 use slot_page::{far_at, pair_at};
 use std::io::{self, Write};
@@ -34,11 +34,6 @@ pub(crate) struct PageFound {
     /// What is wrong with it.
     pub(crate) trouble: Option<Trouble>,
 }
-
-/// A proof learns here that the bytes of a page are below 256.
-fn are_bytes(bytes: &[u8])
-    ensures { (k : ℕ) → slice_index bytes.now k < 256 }
-{}
 
 /// Puts the content of record `i` into `content`, which has room for it, in the place of what that
 /// holds.

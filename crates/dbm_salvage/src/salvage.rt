@@ -1,6 +1,6 @@
 //! The engine of a salvage.
 
-ghost use Rattle.std.specs.Prelude.{◌≡◌, ◌⊎◌, ◌*◌, ◌++◌, ◌≤◌, ◌<◌, length, Some, IfOk, IfErr, IsErrOf, vec_capacity};
+ghost use Rattle.std.specs.Prelude.{◌≡◌, ◌⊎◌, ◌*◌, ◌≤◌, ◌<◌, length, Some, IfOk, IfErr, IsErrOf, vec_capacity};
 ghost use Rattle.sect_dev.specs.Device.{MoreFaults};
 ghost use Rattle.dbm_salvage.specs.Reads.{Looks};
 ghost use Rattle.dbm_salvage.specs.Salvage.{IsPageSalvaged, AreSalvaged, told_by};

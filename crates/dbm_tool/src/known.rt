@@ -1,5 +1,5 @@
 // What is known of the end of a plan, beside how it ended.
-ghost use Rattle.std.specs.Prelude.{◌≡◌, ◌⊎◌, None, map, true};
+ghost use Rattle.std.specs.Prelude.{◌≡◌, ◌⊎◌, None, true};
 ghost use Rattle.std.specs.Option.{option_map};
 ghost use Rattle.dbm_tool.specs.Causes.{file_of};
 ghost use Rattle.dbm_tool.specs.Endings.{has_lines};

@@ -1,11 +1,11 @@
 // The program over its words.
-ghost use Rattle.std.specs.Prelude.{◌≡◌, ◌⊎◌, ◌||◌, OnErr, OnOk, IfErr, IsTrue, Ok, Err, None, map, false, true, codes};
+ghost use Rattle.std.specs.Prelude.{◌≡◌, ◌⊎◌, ◌||◌, OnOk, IfErr, IsTrue, Ok, Err, None, map, false, true};
 ghost use Rattle.std.specs.Option.{option_map};
 ghost use Rattle.std.specs.Io.KnownBytes.{Appends};
 ghost use Rattle.dbm_command_line.specs.Asking.{AreTaken};
 ghost use Rattle.dbm_tool.specs.Causes.{is_fault};
 ghost use Rattle.dbm_tool.specs.Endings.{looks_for_a_key, prints, reads};
-ghost use Rattle.dbm_tool.specs.Faults.{failure_line, fault_line};
+ghost use Rattle.dbm_tool.specs.Faults.{failure_line};
 ghost use Rattle.dbm_tool.specs.Plans.{CarriesOut};
 ghost use Rattle.dbm_tool.specs.Statuses.{AreRefused, AskFor, IsClosedPipe, Tells, TellsFault, TellsMisuse, TellsMore, bad_wait_line, no_command_line, status_of};
 

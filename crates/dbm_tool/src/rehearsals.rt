@@ -1,5 +1,5 @@
 // Rehearsals of a script, on a new database or on a copy of a file.
-ghost use Rattle.std.specs.Prelude.{◌≡◌, OnOk, IfErr, IfOk, IfSome, MatchOption, None, Ok, Err};
+ghost use Rattle.std.specs.Prelude.{◌≡◌, IfSome, MatchOption, None, Ok, Err};
 ghost use Rattle.dbm_tool.specs.Endings.{EndsAs, MayEndRehearsal};
 ghost use Rattle.dbm_tool.specs.Plans.{EndsRehearsal};
 

@@ -1,7 +1,6 @@
 //! Pages, and stores of pages in memory.
 
 ghost use Rattle.std.specs.Prelude.{◌≡◌, [], true, IfOk};
-ghost use Rattle.page_io.specs.Store.{StoreState};
 
 use crate::sectors::sector_of;
 use crate::stores::{may_end_at_5, numbered, stage};

@@ -7,7 +7,7 @@ use Rattle.dbm_model.specs.Pairs.{Pair}
 use Rattle.dbm_model.specs.Bounds.{Version}
 use Rattle.page_model.specs.Address.{Shape}
 use Rattle.page_model.specs.Pages as model
-use Rattle.page_model.specs.Pages.{Body, HeadPage, OverflowPage, NumberedBody, Record}
+use Rattle.page_model.specs.Pages.{Body, HeadPage, OverflowPage, NumberedBody}
 use Rattle.page_model.specs.Chain.{Chain, IsChain, numbers, record_of, entries_in, pages_in, pairs_in}
 use Rattle.page_model.specs.PageBodies.{first_of, heads_of, leaf_bodies, overflow_bodies, entry_bodies, AreRead}
 use Rattle.page_model.proofs.Chains.{AllByRecursion-left}

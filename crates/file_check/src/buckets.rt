@@ -1,6 +1,6 @@
 //! Whether keys are in their bucket.
 
-ghost use Rattle.std.specs.Prelude.{◌≡◌, ◌↔◌, IsTrue};
+ghost use Rattle.std.specs.Prelude.{◌↔◌, IsTrue};
 ghost use Rattle.lin_addr.specs.Shapes.{shape_of};
 ghost use Rattle.page_io.specs.BucketPages.{IsBucketPage, page_records};
 ghost use Rattle.file_check.specs.BucketChains.{AreInBucket};

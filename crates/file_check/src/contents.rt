@@ -1,6 +1,6 @@
 //! The pages of far contents, looked at and marked.
 
-ghost use Rattle.std.specs.Prelude.{◌≡◌, ◌≤◌, ◌<◌, ◌++◌, ℕ, List, length, slice_index, OnOk, IsErrOf};
+ghost use Rattle.std.specs.Prelude.{◌≡◌, ◌≤◌, ◌<◌, ◌++◌, ℕ, List, length, OnOk, IsErrOf};
 ghost use Rattle.page_model.specs.Chain.{Entry, pages_of};
 ghost use Rattle.page_io.specs.Calls.{IsReadingCall};
 ghost use Rattle.page_io.specs.Versions.{model_version};
@@ -16,13 +16,8 @@ use crate::chain_reading::check_part;
 use crate::flaws::{Flaw, Rule, Watch};
 use crate::marking::mark;
 use content_pages::{PER_PAGE, pages_for};
-use page_io::{Page, PageFault, PageStore, Version};
+use page_io::{Page, PageFault, PageStore, Version, are_bytes};
 use slot_page::far_at;
-
-/// A proof learns here that the bytes of a page are below 256.
-fn are_bytes(bytes: &[u8])
-    ensures { (k : ℕ) → slice_index bytes.now k < 256 }
-{}
 
 /// Reads the content of so many bytes that begins in page `first`, and marks its pages. Damaged is
 /// answered as by `read_content`, and where one of its pages is marked already.

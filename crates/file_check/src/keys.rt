@@ -1,6 +1,6 @@
 //! Whether a chain has a key twice.
 
-ghost use Rattle.std.specs.Prelude.{◌≡◌, ◌↔◌, ◌≤◌, ◌++◌, ◌∷◌, ℕ, IsTrue, OnOk, IsErrOf};
+ghost use Rattle.std.specs.Prelude.{◌↔◌, IsTrue, OnOk, IsErrOf};
 ghost use Rattle.page_model.specs.Chain.{Chain};
 ghost use Rattle.page_io.specs.Calls.{IsReadingCall};
 ghost use Rattle.page_io.specs.Versions.{model_version};

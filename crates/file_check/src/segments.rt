@@ -8,7 +8,6 @@ ghost use Rattle.page_io.specs.Views.{body_at};
 ghost use Rattle.page_io.specs.declared.store.PageFault.TheVariants.{Damaged};
 ghost use Rattle.file_check.specs.Marks.{AreMarked, MayBeSeen};
 ghost use Rattle.seg_table.specs.MetaPages.{model_meta};
-ghost use Rattle.seg_table.specs.Segments.{heads_in};
 ghost use Rattle.bucket_chain.specs.WalkAnswers.{IsWalkAnswer};
 ghost use Rattle.file_check.specs.Flaws.{IsTold};
 ghost use Rattle.file_check.specs.Segments.{AreHeadChains, AreHeadsChecked, AreInSegment, IsSegmentChecked, AreBuckets, AreChecked, AreCounted};

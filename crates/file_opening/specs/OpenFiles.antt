@@ -1,11 +1,11 @@
 -- What a file stands for that was opened.
-use Rattle.std.specs.Prelude.{◌≡◌, ◌≤◌, ◌↔◌, ℕ, Bool, true, if◌then◌else◌, [], Result, Ok, Err, IfErr}
+use Rattle.std.specs.Prelude.{◌≡◌, ◌≤◌, ◌↔◌, ℕ, Bool, true, if◌then◌else◌, Result, Ok, Err, IfErr}
 use Rattle.std.specs.FinMap.{empty}
 use Rattle.file_opening.specs.Opening.{bounds_of}
 use Rattle.dbm_model.specs.Bounds.{Bounds}
 use Rattle.sect_dev.specs.Device.{MoreFaults}
 use Rattle.sect_dev.specs.declared.device.SectorDev as device
-use Rattle.page_io.specs.Store.{Settled, StoreState}
+use Rattle.page_io.specs.Store.{Settled}
 use Rattle.page_io.specs.Meaning.{ImageStandsFor}
 use Rattle.page_io.specs.declared.store.PageStore.{Ghosts}
 use Rattle.redo_area.specs.Pagers.{device_of}
@@ -30,12 +30,6 @@ pub record IsOpeningCall {D : Type 0} (dev : device.Ghosts D) {s : Ghosts (Pager
   pub honesty : dev.honest (device_left result) ↔ dev.honest old
   pub later : dev.faults old ≤ dev.faults (device_left result)
   pub fault : IfErr result (λ e. e.1 ≡ Device → MoreFaults (dev.faults old) (dev.faults e.0))
-
--- Nothing is staged, and the store may commit: it is usable and writable.
-pub record IsReady (state : StoreState) : Type 0 where
-  pub idle : state.staged ≡ []
-  pub usable : state.usable ≡ true
-  pub writable : state.writable ≡ true
 
 -- a file as an opening leaves it
 pub record IsJustOpened {S : Type 0} {s : Ghosts S} (for_writing : Bool) (pages : ℕ)

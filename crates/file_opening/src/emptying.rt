@@ -10,7 +10,7 @@ ghost use Rattle.page_model.specs.PageBodies.{meta_of as placement_meta};
 ghost use Rattle.page_io.specs.Answers.{HasDeviceCause};
 ghost use Rattle.page_io.specs.Meaning.{ImageStandsFor};
 ghost use Rattle.page_io.specs.Page.{own_number};
-ghost use Rattle.page_io.specs.Store.{bytes_of, file_of};
+ghost use Rattle.page_io.specs.Store.{bytes_of, file_of, IsReady};
 ghost use Rattle.page_io.specs.Views.{StagesOnly};
 ghost use Rattle.page_io.specs.declared.store.PageFault.TheVariants.{Memory, Device, Broken, NoRoom};
 ghost use Rattle.redo_area.specs.File.{settled};
@@ -19,7 +19,7 @@ ghost use Rattle.redo_area.specs.Pagers.{device_of};
 ghost use Rattle.seg_table.specs.MetaPages.{model_meta};
 ghost use Rattle.page_io.specs.Committing.{Holds, IsForgotten};
 ghost use Rattle.file_opening.specs.Opening.{emptying_fault, bounds_of};
-ghost use Rattle.file_opening.specs.OpenFiles.{device_left, IsOpeningCall, IsReady, IsJustOpened, StandsAs};
+ghost use Rattle.file_opening.specs.OpenFiles.{device_left, IsOpeningCall, IsJustOpened, StandsAs};
 
 use crate::making::{pages_of_empty, room_refusal};
 use crate::{Fault, OpenFile, OpenHow};

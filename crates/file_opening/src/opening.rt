@@ -1,6 +1,6 @@
 //! Opening a device.
 
-ghost use Rattle.std.specs.Prelude.{◌≡◌, ◌≢◌, ◌⊎◌, ◌<◌, ◌+◌, ◌/◌, ℕ, length, IfOk, IfErr, IfSome, Some, None, Err, true, false, if◌then◌else◌, map};
+ghost use Rattle.std.specs.Prelude.{◌≡◌, ◌≢◌, ◌⊎◌, ◌<◌, ◌+◌, ◌/◌, length, IfOk, IfErr, IfSome, Some, None, Err, true, false, if◌then◌else◌, map};
 ghost use Rattle.std.specs.FinMap.{empty};
 ghost use Rattle.dbm_model.specs.Bounds.{Bounds};
 ghost use Rattle.sect_dev.specs.Device.{Image, IsImageOf, IsStable, LeavesOnly};

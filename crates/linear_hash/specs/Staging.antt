@@ -1,5 +1,5 @@
 -- What a change stages.
-use Rattle.std.specs.Prelude.{◌≡◌, ◌⊎◌, ◌+◌, ◌*◌, ◌^◌, ◌<◌, ◌≤◌, ℕ, Bool, if◌then◌else◌, true, false, length, Result, IfErr, OnOk, IsErrOf}
+use Rattle.std.specs.Prelude.{◌≡◌, ◌⊎◌, ◌+◌, ◌*◌, ◌^◌, ◌<◌, ◌≤◌, ℕ, Bool, if◌then◌else◌, true, false, length, Result, IfErr, IsErrOf}
 use Rattle.std.specs.FinMap.{get}
 use Rattle.dbm_model.specs.Bounds.{Version, V2}
 use Rattle.dbm_model.specs.Pairs.{Pair, is_far}
@@ -18,7 +18,7 @@ use Rattle.seg_table.specs.Heads.{AddsSegment}
 use Rattle.bucket_chain.specs.Placements.{IsBelow}
 use Rattle.linear_hash.specs.Tables.{shape_in}
 use Rattle.page_io.specs.declared.store.PageStore.{Ghosts}
-use Rattle.page_io.specs.Views.{body_at, MayEnd}
+use Rattle.page_io.specs.Views.{body_at}
 use Rattle.page_io.specs.Committing.{MayCommit}
 
 -- the pages but the meta page say a sound placement midway in a change, and this is kept of it

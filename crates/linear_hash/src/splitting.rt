@@ -1,8 +1,8 @@
 //! One bucket more.
 
-ghost use Rattle.std.specs.Prelude.{◌≡◌, ◌+◌, ◌*◌, ◌^◌, ◌<◌, ◌≤◌, All, OnOk, IfOk, IsErrOf, length, map};
+ghost use Rattle.std.specs.Prelude.{◌≡◌, ◌*◌, ◌^◌, ◌<◌, ◌≤◌, All, OnOk, IfOk, IsErrOf, length, map};
 ghost use Rattle.page_model.specs.Chain.{numbers};
-ghost use Rattle.page_model.specs.Placement.{Placement, pairs_of, chain_at, extended, split};
+ghost use Rattle.page_model.specs.Placement.{Placement, chain_at, extended, split};
 ghost use Rattle.page_model.specs.PageBodies.{first_of};
 ghost use Rattle.dbm_model.specs.Sizes.{segments_for};
 ghost use Rattle.page_model.specs.Valid.{meta_buckets};

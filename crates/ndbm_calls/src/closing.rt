@@ -1,5 +1,4 @@
 // Closing a database.
-ghost use Rattle.dbm_file.specs.Opened.{device_below};
 ghost use Rattle.ndbm_calls.specs.Closing.{Closes};
 
 use crate::status::of_done;

@@ -2,7 +2,7 @@
 use Rattle.std.specs.Prelude.{◌≡◌, ◌≤◌, true}
 use Rattle.page_io.specs.Views.{ReadsOnly}
 use Rattle.page_io.specs.declared.store.PageStore.{Ghosts}
-use Rattle.page_group.specs.Base.{MayBegin}
+use Rattle.page_io.specs.Store.{IsReady}
 use Rattle.page_group.specs.Changed.{changed_pages}
 use Rattle.page_group.specs.Whole.{IsWhole}
 use Rattle.page_group.specs.declared.changes.Changes.{Changes}
@@ -15,7 +15,7 @@ pub record Over (S : Type 0) : Type 0 where
 
 -- the base was read at most, and what it lacks of the group's file is held
 pub record IsOver {S : Type 0} (s : Ghosts S) (first base : S) (held : Changes) : Type 0 where
-  pub ready : MayBegin (s.state first)
+  pub ready : IsReady (s.state first)
   pub reads : ReadsOnly s first base
   pub longer : (s.state first).end ≤ held.end
   pub whole : held.usable ≡ true

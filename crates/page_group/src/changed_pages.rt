@@ -1,5 +1,5 @@
 // Pages in memory by their own numbers.
-ghost use Rattle.std.specs.Prelude.{◌≡◌, ◌<◌, ◌≤◌, ◌^◌, ℕ, true, [], length, OnOk, IfOk};
+ghost use Rattle.std.specs.Prelude.{◌≡◌, ◌<◌, ◌≤◌, ◌^◌, true, [], length, OnOk, IfOk};
 ghost use Rattle.page_io.specs.Calls.{IsStagingCall};
 ghost use Rattle.page_io.specs.Page.{own_number};
 ghost use Rattle.page_io.specs.Store.{bytes_of, overlaid, put_page, has_page, are_in_order};
@@ -38,10 +38,9 @@ impl ChangedPages {
     ghost use Rattle.std.specs.Prelude.{◌↔◌, false, Ok, IfErr};
     ghost use Rattle.sect_dev.specs.Device.{LeavesOnly};
     ghost use Rattle.page_io.specs.Answers.{HasDeviceCause};
-    ghost use Rattle.page_io.specs.Store.{IsEither, committed_with};
+    ghost use Rattle.page_io.specs.Store.{IsEither, IsReady, committed_with};
     ghost use Rattle.page_io.specs.Views.{ReadsOnly};
     ghost use Rattle.page_io.specs.declared.store.PageFault.TheVariants.{Device};
-    ghost use Rattle.page_group.specs.Base.{MayBegin};
     ghost use Rattle.page_group.specs.Changed.{changed_pages, put_all};
     ghost use Rattle.page_group.specs.Staging.{IsStagingAnswer};
     ghost use Rattle.page_group.specs.Whole.{IsWhole};
@@ -120,7 +119,7 @@ impl ChangedPages {
     /// before page `new_end`. Where they aren't, for want of memory or of room or because there is
     /// none, nothing has changed.
     pub fn commit_into<S: PageStore>(&self, store: &mut S, new_end: u32) -> Result<bool, PageFault>
-        requires ready { MayBegin (S.state store.old) }
+        requires ready { IsReady (S.state store.old) }
         requires longer { (S.state store.old).end ≤ new_end }
         requires whole { IsWhole (S.state store.old).end (changed_pages self.now) new_end }
         ensures done { result ≡ Ok true → S.state store.new

@@ -1,7 +1,7 @@
 // A store of pages in memory over the pages of another one.
 ghost use Rattle.std.specs.Prelude.{◌≡◌, [], true, Some, ◌↔◌, IfSome};
 ghost use Rattle.page_io.specs.Views.{ReadsOnly};
-ghost use Rattle.page_group.specs.Base.{MayBegin};
+ghost use Rattle.page_io.specs.Store.{IsReady};
 ghost use Rattle.page_group.specs.Ending.{IsCommit};
 ghost use Rattle.page_group.specs.Group.{changed_count};
 
@@ -56,7 +56,7 @@ impl<'a, S: PageStore, L: Loan<S>> GroupPages<'a, S, L> {
     pub fn over(alloc: Global, base: &'a mut S) -> GroupPages<'a, S, L>
         requires same { base.ghost_name ≡ L.name }
         requires lent { L.began ≡ Some base.old }
-        requires ready { MayBegin (S.state base.old) }
+        requires ready { IsReady (S.state base.old) }
         ensures state { ⟦<GroupPages<'a, S, L> as PageStore>⟧.state result
             ≡ record {
               staged = [];

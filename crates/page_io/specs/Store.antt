@@ -91,6 +91,12 @@ pub record StoreState : Type 0 where
   -- where it stands over a device
   pub base : Pages
 
+-- nothing is staged, and a commit may change the store: it is usable and writable
+pub record IsReady (state : StoreState) : Type 0 where
+  pub idle : state.staged ≡ []
+  pub usable : state.usable ≡ true
+  pub writable : state.writable ≡ true
+
 -- page n is staged, or one of the committed ones
 abbrev pub IsKnown : StoreState → ℕ → Type 0
 IsKnown state n = (has_page state.staged n ≡ true) ⊎ ((1 ≤ n) × (n < state.end))

@@ -17,6 +17,7 @@ pub use committing::finish;
 pub use laws::{commits_stand, images_have_one_meaning};
 pub use mem_pages::MemPages;
 pub use page::{PAGE_LEN, Page, SECTORS_PER_PAGE};
+pub use plain::are_bytes;
 pub use sectors::{read_page, write_page};
 pub use served::ServedStore;
 pub use staged::{StagedPages, find_staged, hand_over, is_among, next_staged, put_staged};

@@ -3,10 +3,10 @@ use Rattle.std.proofs.Common.{◌≡◌, ℕ, zero, suc, Bool, ◌+◌, ◌*◌,
 use Rattle.std.specs.List.{AllByRecursion}
 use Rattle.std.proofs.lemmas.Bool.{ltb-true, ltb-false}
 use Rattle.std.proofs.Math.Pow.{pow_mono}
-use Rattle.dbm_model.specs.Bounds.{Version, V1, V2, Bounds}
-use Rattle.dbm_model.specs.Pairs.{Pair, is_far, IsAllowed}
+use Rattle.dbm_model.specs.Bounds.{Version, V1, V2}
+use Rattle.dbm_model.specs.Pairs.{is_far, IsAllowed}
 use Rattle.page_model.specs.Chain.{Entry, Chain, pages_long, numbers, entries_in, leaf_pairs, pairs_in, pages_of, pages_in, has_room, IsEntry, IsChain}
-use Rattle.page_model.specs.Space.{Space, next_page, next_pages, after_take, after_takes, give, IsExact}
+use Rattle.page_model.specs.Space.{Space, next_page, after_take, after_takes, give, IsExact}
 use Rattle.dbm_model.specs.Sizes.{buckets_for, pages_for, home}
 use Rattle.page_model.specs.Placement.{Placement, pairs_of, in_use, key_bucket, chain_at, put_entry, IsSoundBeside, IsSound, begins_segment, extended, split}
 use Rattle.page_model.specs.PlacementLaws.{LevelIsLow}
@@ -17,7 +17,7 @@ use Rattle.page_model.proofs.Chains.{near_if, pairs_of_entries, AllByRecursion-l
 use Rattle.page_model.proofs.PairLists.{length-sum_by}
 use Rattle.page_model.proofs.Spaces.{IsExact-take}
 use Rattle.page_model.proofs.Places.{sum_by-put}
-use Rattle.page_model.proofs.Splits.{CanFill, can_fill_rest, can_fill_extended, headed_pages, extended_sound, sum_by-extended}
+use Rattle.page_model.proofs.Splits.{CanFill, can_fill_rest, can_fill_extended, headed_pages, sum_by-extended}
 
 -- each overflow page has a pair
 full_leaves : (leaves : Chain) → AllByRecursion (λ leaf. 0 < length leaf.entries) leaves

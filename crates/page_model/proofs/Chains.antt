@@ -13,7 +13,7 @@ use Rattle.dbm_model.specs.Bounds.{Version, V1, V2}
 use Rattle.dbm_model.specs.Pairs.{Key, Pair, is_far, IsAllowed}
 use Rattle.page_model.specs.PairLists.{has_key}
 use Rattle.page_model.specs.Slots.{size, taken}
-use Rattle.page_model.specs.Chain.{Entry, Leaf, Chain, record_with, record_of, pages_long, content_pages, numbers, entries_in, leaf_pairs, pairs_in, pages_of, pages_in, used, need, fits, push, has_room, add, take_out, is_at, without, is_bare, remove, emptied, freed, IsEntry, IsChain}
+use Rattle.page_model.specs.Chain.{Entry, Leaf, Chain, record_with, record_of, pages_long, numbers, entries_in, leaf_pairs, pairs_in, pages_of, pages_in, used, need, fits, push, has_room, add, take_out, is_at, without, is_bare, remove, emptied, freed, IsEntry, IsChain}
 use Rattle.page_model.proofs.PairLists.{value_in, value_in-append}
 
 -- the pages stay, and the new one comes last where none has room

@@ -1,14 +1,12 @@
 -- The content pages of a record, joined, are its content.
-use Rattle.std.proofs.Common.{◌≡◌, ℕ, zero, suc, ◌+◌, ◌-◌, ◌*◌, ◌≤◌, ◌<◌, Bool, true, false, cond, List, [], ◌∷◌, ◌++◌, length, map, take, drop, flat_map, replicate, Some, inl, inr, refl, sym, ap, ◌∙◌, append_assoc, append-nil, arith}
+use Rattle.std.proofs.Common.{◌≡◌, ℕ, suc, ◌+◌, ◌-◌, ◌*◌, ◌≤◌, cond, List, [], ◌∷◌, ◌++◌, length, take, drop, flat_map, replicate, Some, inl, inr, refl, sym, ap, ◌∙◌, append_assoc, append-nil, arith}
 use Rattle.std.specs.List.{AllByRecursion}
 use Rattle.std.proofs.lemmas.Bool.{cases_lt}
 use Rattle.std.proofs.lemmas.List.{take_all, take_at, length-take-le, length-drop, take-append-drop}
 use Rattle.dbm_model.specs.Bounds.{Version}
-use Rattle.dbm_model.specs.Pairs.{Pair, is_far}
 use Rattle.page_model.specs.Bytes.{u32_at, u32_bytes}
-use Rattle.page_model.specs.Numbers.{IsNumber}
-use Rattle.page_model.specs.Chain.{Entry, pages_long, content_pages, record_with, record_of, pages_of, IsEntry}
-use Rattle.page_model.specs.Pages.{Body, ContentPage}
+use Rattle.page_model.specs.Chain.{Entry, pages_long, record_with, record_of, pages_of, IsEntry}
+use Rattle.page_model.specs.Pages.{Body}
 use Rattle.page_model.specs.PageBodies.{first_of, filled, content_bodies, entry_bodies, AreRead}
 use Rattle.page_model.specs.Meaning.{bytes_on, page_behind, joined, content_by, pair_of}
 use Rattle.page_model.proofs.Chains.{AllByRecursion-left, AllByRecursion-right}

@@ -1,5 +1,5 @@
 -- Commit sectors that are worked out by hand.
-use Rattle.std.specs.Prelude.{◌≡◌, ℕ, List, [], ◌∷◌, ◌++◌, drop, replicate}
+use Rattle.std.specs.Prelude.{◌≡◌, [], ◌∷◌, ◌++◌, drop, replicate}
 use Rattle.redo_area.specs.Header.{fields, spelled, header_of}
 use Rattle.redo_area.specs.declared.header.Header.TheVariants.{Blank, Clear, Armed, NotOurs, Damaged}
 

@@ -1,6 +1,5 @@
 // A session on a device in memory that is stopped after so many of its calls.
-ghost use Rattle.std.specs.Prelude.{◌≡◌, ◌⊎◌, ◌+◌, ◌≤◌, ◌/◌, ℕ, None, IfOk, true};
-ghost use Rattle.sect_dev.specs.Device.{IsImageOf};
+ghost use Rattle.std.specs.Prelude.{◌≡◌, ◌+◌, ◌≤◌, ◌/◌, ℕ, None, IfOk, true};
 ghost use Rattle.file_opening.specs.Opening.{early_fault, AllStand, AllAllow};
 ghost use Rattle.dbm_model.specs.Members.{Members, AllHaveRoom};
 ghost use Rattle.dbm_model.specs.SessionRoom.{IsNeverShort};

@@ -1,6 +1,6 @@
 // A session on a device, from its opening to its end.
 ghost use Rattle.std.specs.Prelude.{◌≡◌, ◌≢◌, ◌⊎◌, ◌↔◌, ◌≤◌, ◌/◌, ℕ, None, true, length, map, Err, IfOk, IfErr, OnOk};
-ghost use Rattle.sect_dev.specs.Device.{Image, IsImageOf, LeavesOnly, MoreFaults};
+ghost use Rattle.sect_dev.specs.Device.{LeavesOnly, MoreFaults};
 ghost use Rattle.sect_dev.specs.Moments.{IsOutcome};
 ghost use Rattle.redo_area.specs.File.{settled};
 ghost use Rattle.dbm_model.specs.Room.{HasRoom};

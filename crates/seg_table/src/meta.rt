@@ -1,6 +1,6 @@
 //! The meta page: page 1.
 
-ghost use Rattle.std.specs.Prelude.{◌≡◌, ◌≢◌, ◌↔◌, ◌<◌, ◌≤◌, ◌∷◌, [], All, IsTrue, IsSome, IfSome, IfOk, IsOkAnd, Err};
+ghost use Rattle.std.specs.Prelude.{◌≡◌, ◌↔◌, ◌<◌, ◌≤◌, ◌∷◌, [], All, IsTrue, IsSome, IfSome, IfOk, IsOkAnd, Err};
 ghost use Rattle.dbm_model.specs.Bounds.{version_number};
 ghost use Rattle.page_model.specs.Bytes.{u32_at};
 ghost use Rattle.page_model.specs.Numbers.{IsNumber, numbers_at};

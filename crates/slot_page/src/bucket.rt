@@ -3,7 +3,7 @@
 ghost use Rattle.std.specs.Prelude.{◌≡◌, ◌+◌, ◌*◌, ◌<◌, ◌≤◌, ◌↔◌, ◌++◌, ◌∷◌, [], ℕ, IsTrue, IsSome, IfSome, IfNone, ◌⊎◌, length, map, remove as without};
 ghost use Rattle.std.specs.List.{HoldsAt, AllByRecursion};
 ghost use Rattle.page_model.specs.Bytes.{overwrite};
-ghost use Rattle.page_model.specs.Pages.{Record, Bucket, bucket};
+ghost use Rattle.page_model.specs.Pages.{Bucket, bucket};
 ghost use Rattle.page_model.specs.Slots.{slot_bytes, slots_ending, total_size, room_of};
 ghost use Rattle.page_model.specs.Spelling.{bucket_spelling};
 ghost use Rattle.page_model.specs.Reading.{own_number, bucket_of};
@@ -14,10 +14,10 @@ ghost use Rattle.page_io.specs.BucketPages.{IsBucketPage, IsPageOf, page_records
 ghost use Rattle.slot_page.specs.Contents.{HasRecords, KeepsHeader, HasKeyAt, IsAbsent, with_records, with_next, record_of, near_record, far_record, told_content};
 
 use crate::layout::{COUNT_AT, HEADER_LEN, KIND_AT, LOW_AT, NEXT_AT, OWN_AT, SLOT_LEN};
-use crate::reading::{are_bytes, bytes_at, is_laid_out, key_at, read_slots, slot_at};
+use crate::reading::{bytes_at, is_laid_out, key_at, read_slots, slot_at};
 use crate::slot::{Slot, Slots};
 use byteorder::{BigEndian, ByteOrder};
-use page_io::{PAGE_LEN, Page, Version};
+use page_io::{PAGE_LEN, Page, Version, are_bytes};
 
 /// Whether a page is spelled as a head page or an overflow page of this version, under any own
 /// number. It looks at every byte of the page, and takes no copy.

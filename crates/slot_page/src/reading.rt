@@ -1,6 +1,6 @@
 //! Whether a page is spelled as a bucket page.
 
-ghost use Rattle.std.specs.Prelude.{◌≡◌, ◌+◌, ◌*◌, ◌<◌, ◌≤◌, ◌↔◌, ℕ, slice_index, IsTrue};
+ghost use Rattle.std.specs.Prelude.{◌≡◌, ◌+◌, ◌*◌, ◌<◌, ◌≤◌, ◌↔◌, IsTrue};
 ghost use Rattle.page_model.specs.Reading.{key_of, bytes_of, slot_count};
 ghost use Rattle.page_model.specs.Slots.{key_size, bytes_size};
 ghost use Rattle.page_io.specs.Versions.{model_version};
@@ -11,11 +11,6 @@ use crate::layout::{COUNT_AT, HEAD, HEADER_LEN, KIND_AT, LOW_AT, OVERFLOW, SLOT_
 use crate::marks::{MARK_COUNT, mark_of};
 use crate::slot::{FAR_BIT, FAR_BYTES, MAX_FAR_KEY, MAX_NEAR, Slot, Slots};
 use page_io::{PAGE_LEN, Page, Version};
-
-/// A proof learns here that bytes are below 256, and of a page that it has 2,048.
-pub fn are_bytes(bytes: &[u8])
-    ensures { (k : ℕ) → slice_index bytes.now k < 256 }
-{}
 
 /// Slot `i`, whatever stands there.
 pub fn slot_at(page: &Page, i: usize) -> Slot

@@ -1,5 +1,4 @@
 //! A store over a device that somebody else serves.
-ghost use Rattle.std.specs.Prelude.{◌≡◌};
 
 use super::Pager;
 use page_io::ServedStore;

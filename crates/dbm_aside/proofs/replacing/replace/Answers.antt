@@ -1,4 +1,4 @@
-use Rattle.std.proofs.Common.{Result, subst, sym}
+use Rattle.std.proofs.Common.{Result, subst}
 use Rattle.dbm_fault.specs.declared.engine_fault.EngineFault.{EngineFault}
 use Rattle.dbm_aside.specs.Stops.{Ends}
 use Rattle.dbm_engines.specs.LoadRefusals.{as_engine}

@@ -1,4 +1,4 @@
-use Rattle.std.proofs.Common.{◌*◌, ◌%◌, ℕ, is_ok, inr, ap, arith}
+use Rattle.std.proofs.Common.{◌*◌, ◌%◌, ℕ, is_ok, inr, ap}
 use Rattle.std.proofs.lemmas.Result.{on_ok_weaker, on_err_weaker}
 use Rattle.sect_dev.specs.FileHistory.{history_of}
 use Rattle.sect_dev.specs.FileHistory.Change.{Writes, Syncs}
