@@ -1,10 +1,6 @@
 // A new table that is filled from a text.
-ghost use Rattle.std.specs.Prelude.{◌≡◌, ◌≤◌, OnOk, IfSome, Some, [], length};
-ghost use Rattle.dbm_file.specs.Answers.{IsSameDatabase};
 ghost use Rattle.dbm_lines.specs.Forms.{dump_in};
-ghost use Rattle.dbm_engines.specs.LoadEndings.{TellsWhy};
-ghost use Rattle.dbm_engines.specs.LoadRefusals.{StopsByFault};
-ghost use Rattle.dbm_engines.specs.Loading.{Loads, LoadsDump};
+ghost use Rattle.dbm_engines.specs.Loading.{IsLoad};
 
 use dbm_engines::{LoadStop, load_engine, load_text_engine};
 use dbm_file::Database;
@@ -25,17 +21,7 @@ pub fn fill<S: PageStore, R: BufRead, P: Progress>(
     form: TextForm,
     progress: &mut P,
 ) -> Result<(), LoadStop>
-    ensures loads { Loads form result (R.remaining reader.old) db.old db.new }
-    ensures why { TellsWhy form result (R.remaining reader.old) }
-    ensures read { OnOk result (IfSome (R.remaining reader.old)
-        (λ text. R.remaining reader.new ≡ Some [])) }
-    ensures size { OnOk result (IfSome (R.remaining reader.old)
-        (λ text. length text ≤ 4294967295)) }
-
-    // A dump of this form leaves its map in an empty table.
-    ensures dump { OnOk result (LoadsDump (dump_in form) (R.remaining reader.old) db.old db.new) }
-    ensures faults { StopsByFault result }
-    ensures goes { IsSameDatabase db.old db.new }
+    ensures { IsLoad form (dump_in form) R.remaining reader.old reader.new db.old db.new result }
 {
     match form {
         TextForm::Hexadecimal => load_engine(alloc, db, reader, GROUP, progress),

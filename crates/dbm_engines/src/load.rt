@@ -5,7 +5,7 @@ ghost use Rattle.dbm_lines.specs.Dumps.{dump_of, text_dump_of};
 ghost use Rattle.dbm_lines.specs.Forms.{pair_in, is_passed_in, dump_in};
 ghost use Rattle.dbm_engines.specs.LoadEndings.{IsBadFor, TellsWhy};
 ghost use Rattle.dbm_engines.specs.LoadRefusals.{StopsByFault};
-ghost use Rattle.dbm_engines.specs.Loading.{Loads, LoadsDump, LoadsLine, IsLoad};
+ghost use Rattle.dbm_engines.specs.Loading.{Loads, LoadsLine, IsLoad};
 
 use crate::batch::Batch;
 use crate::grouping::load_groups;
@@ -67,19 +67,7 @@ fn load_in_form<S: PageStore, R: BufRead, P: Progress>(
     group: u32,
     progress: &mut P,
 ) -> Result<(), LoadStop>
-    ensures loads { Loads form result (R.remaining reader.old) db.old db.new }
-    ensures why { TellsWhy form result (R.remaining reader.old) }
-    ensures read { OnOk result (IfSome (R.remaining reader.old)
-        (λ text. R.remaining reader.new ≡ Some [])) }
-    ensures size { OnOk result (IfSome (R.remaining reader.old)
-        (λ text. length text ≤ 4294967295)) }
-
-    // A dump is loaded back.
-    ensures dump { OnOk result (LoadsDump (dump_in form) (R.remaining reader.old) db.old db.new) }
-    ensures faults { StopsByFault result }
-    ensures goes { IsSameDatabase db.old db.new }
-    ensures memory { result ≡ Err LoadStop.Memory
-        → (db.new ≡ db.old) × (reader.new ≡ reader.old) }
+    ensures { IsLoad form (dump_in form) R.remaining reader.old reader.new db.old db.new result }
 {
     let Ok(mut buffers) = Buffers::new(alloc, form) else {
         return Err(LoadStop::Memory);

@@ -4,5 +4,5 @@
 mod progress;
 mod terminal;
 
-pub use progress::{Progress, Work};
+pub use progress::{Progress, Silent, Work};
 pub use terminal::{Terminal, Terminals};

@@ -43,3 +43,13 @@ pub trait Progress {
     /// Takes away what is shown, since something else may now be written where it stands.
     fn clear(&mut self);
 }
+
+/// Tells nobody.
+#[derive(Clone, Copy, Debug, PartialEq, Eq)]
+pub struct Silent;
+
+impl Progress for Silent {
+    fn step(&mut self, _work: Work) {}
+
+    fn clear(&mut self) {}
+}

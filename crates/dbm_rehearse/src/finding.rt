@@ -1,15 +1,20 @@
 // What is in a database.
+ghost use Rattle.std.specs.Prelude.{◌≡◌, true, IfOk};
+ghost use Rattle.std.specs.FinMap.{entries};
+ghost use Rattle.dbm_file.specs.Database.{AtEachHandle};
+ghost use Rattle.dbm_engines.specs.Dumping.{bytes_of_pairs};
 ghost use Rattle.dbm_fault.specs.Among.{IsAmong, IsErrAmong};
 ghost use Rattle.dbm_rehearse.specs.Faults.{database_faults};
 
 use crate::bounds::Bounds;
 use crate::changes::Pairs;
+use dbm_engines::gather_pairs;
 use dbm_fault::EngineFault;
 use dbm_file::{Access, Database, Db, Fault, OpenHow};
+use dbm_progress::Silent;
 use page_io::PageStore;
 use sect_dev::MemDev;
 use std::alloc::Global;
-use std::collections::BTreeMap;
 
 /// Opens a device for writing, and makes a database of these bounds where it is blank and there
 /// are some.
@@ -36,45 +41,17 @@ pub fn open_device(
     }
 }
 
-/// The pairs of a database, by a pass and a fetch of each key. `Damaged` where the pass gives a key
-/// twice, one that fetch doesn't find, or more keys than the file counts pairs, or fewer.
+/// The pairs of a database, by a pass and a fetch of each key. `Damaged` where the pass gives more
+/// keys than the file counts pairs, or fewer, or one that fetch doesn't find.
 pub fn pairs_in<S: PageStore>(alloc: Global, db: &mut Database<S>) -> Result<Pairs, EngineFault>
-    ensures { IsErrAmong result database_faults }
+    ensures pairs { AtEachHandle db.old (λ h. h.state.usable ≡ true
+        → IfOk result (λ pairs. bytes_of_pairs pairs ≡ entries h.state.map)) }
+    ensures only { IsErrAmong result database_faults }
 {
-    let most = db.stat().pairs;
-    let mut pairs = BTreeMap::new(alloc);
-    let mut key = copied(alloc, db.firstkey())?;
-    for _ in 0..=most {
-        let Some(found) = key else {
-            if pairs.len() < most as usize {
-                return Err(EngineFault::Db(Fault::Damaged));
-            }
-            return Ok(pairs);
-        };
-        let Some(content) = copied(alloc, db.fetch(found.as_slice()))? else {
-            return Err(EngineFault::Db(Fault::Damaged));
-        };
-        match pairs.insert(found, content) {
-            Ok(None) => {}
-            Ok(Some(_)) => return Err(EngineFault::Db(Fault::Damaged)),
-            Err(_) => return Err(EngineFault::Memory),
-        }
-        key = copied(alloc, db.nextkey())?;
-    }
-    Err(EngineFault::Db(Fault::Damaged))
-}
-
-// A copy of the bytes that a call lends.
-fn copied(alloc: Global, lent: Result<Option<&[u8]>, Fault>) -> Result<Option<Vec<u8>>, EngineFault>
-    ensures { IsErrAmong result database_faults }
-{
-    match lent {
-        Ok(Some(bytes)) => match Vec::from_slice(alloc, bytes) {
-            Ok(copy) => Ok(Some(copy)),
-            Err(_) => Err(EngineFault::Memory),
-        },
-        Ok(None) => Ok(None),
-        Err(fault) => Err(engine_fault_of(fault)),
+    match gather_pairs(alloc, db, &mut Silent) {
+        Ok(pairs) => Ok(pairs),
+        Err(EngineFault::Db(fault)) => Err(engine_fault_of(fault)),
+        Err(_) => Err(EngineFault::Memory),
     }
 }
 
