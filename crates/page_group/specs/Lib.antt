@@ -1,4 +1,3 @@
-pub mod Base
 pub mod Changed
 pub mod Ending
 pub mod Group
