@@ -24,7 +24,7 @@ returns-in_default g c =
 pub returns : goal.returns
 returns g c =
     let loads = loads_in c.args.form c.in-Ok.buffers.form _ _ _ _ c.in-Ok.ensures.0
-                c.load_with.ensures.loads in
+    c.load_with.ensures.loads in
     record {
       loads = loads;
       why =
