@@ -1,6 +1,7 @@
 pub mod Added
 pub mod ChainContents
 pub mod Clearing
+pub mod ContentLookups
 pub mod ContentPuts
 pub mod ContentReads
 pub mod FarPuts

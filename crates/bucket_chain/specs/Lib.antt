@@ -3,6 +3,7 @@ pub mod AnyFile
 pub mod Bests
 pub mod Chains
 pub mod Changes
+pub mod ContentLookups
 pub mod Giving
 pub mod Hits
 pub mod KeyRanks

@@ -2,6 +2,7 @@
 //! find the next key of a pass and load all records, and changes of it.
 #![tactic(auto)]
 
+mod content_lookups;
 mod laws;
 mod leasts;
 mod link;
@@ -15,6 +16,7 @@ mod removes;
 mod staging;
 mod stores;
 
+pub use content_lookups::{FoundContent, NearContent, lookup_content};
 pub use laws::{
     chains_are_placed, entries_are_placements, puts_are_placements, removals_are_placements,
 };

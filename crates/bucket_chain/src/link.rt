@@ -22,7 +22,7 @@ pub const OVERFLOW: u8 = 4;
 
 /// What follows a bucket page in its chain, 0 for none, if it is page `n` and has this kind. An empty
 /// overflow page is no page of a chain.
-fn next_of(page: &Page, n: u32, kind: u8, version: Version) -> Option<u32>
+pub fn next_of(page: &Page, n: u32, kind: u8, version: Version) -> Option<u32>
     requires { IsPageOf (model_version version) page.now.bytes }
     ensures sound { IfSome result
         (λ next. IsLink (model_version version) page.now.bytes n kind next

@@ -1,5 +1,5 @@
 -- Searches, by what they answered.
-use Rattle.std.proofs.Common.{◌≡◌, ◌⊎◌, ◌<◌, ℕ, zero, suc, Bool, true, false, is_some, List, [], ◌∷◌, length, get_or, refl, arith, Option, Some, None, Result, Err, IfOk, inl, inr, sym, ◌∙◌, ap, subst}
+use Rattle.std.proofs.Common.{◌≡◌, ◌⊎◌, ◌<◌, ℕ, zero, suc, Bool, true, false, is_some, List, [], ◌∷◌, length, get_or, refl, arith, Option, Some, None, Result, Err, IfOk, inl, inr, sym, ◌∙◌, subst}
 use Rattle.std.specs.Prelude.{◌↔◌, ◌≢◌, IsSome}
 use Rattle.std.specs.Borrow.{Bor}
 use Rattle.std.specs.List.{HoldsAt}
@@ -9,12 +9,12 @@ use Rattle.dbm_model.specs.Steps.{IsAhead}
 use Rattle.bucket_chain.specs.Chains.{ReadLeaf}
 use Rattle.page_model.specs.Pages.{Meta, Body, Record}
 use Rattle.page_io.specs.BucketPages.{page_records}
-use Rattle.slot_page.specs.Contents.{told_content}
 use Rattle.content_pages.specs.Contents.{IsContentAt}
 use Rattle.bucket_chain.specs.Walks.{EndsWithout}
+use Rattle.bucket_chain.specs.declared.content_lookups.FoundContent.{FoundContent}
+use Rattle.bucket_chain.specs.declared.content_lookups.FoundContent.TheVariants.{Near, Far}
 use Rattle.bucket_chain.specs.declared.place.Place.{Place}
-use Rattle.linear_hash.specs.Looking.{IsSearch, EndsAt, SaysContent, SaysPair}
-use Rattle.dbm_file.specs.Fetching.{record_in}
+use Rattle.linear_hash.specs.Looking.{IsSearch, EndsAt, EndsAtFound, SaysContent}
 use Rattle.dbm_fault.specs.declared.fault.Fault.{Fault}
 use Rattle.dbm_fault.specs.declared.fault.Fault.TheVariants.{NoPass, Device, Damaged}
 use Rattle.bucket_chain.specs.Leasts.{IsAheadAt}
@@ -77,73 +77,65 @@ pub was_absent : (at : ℕ → Body) (m : Meta) (key : Key) (there : Bool) → t
 was_absent at m key there is s = subst (λ (b : Bool). IsSearch at m key (EndsBy key b)) is s
 
 -- nothing was found
-pub found_nothing : (at : ℕ → Body) (m : Meta) (key : Key) (bytes : List ℕ) (place : Option Place)
-    → place ≡ None → IsSearch at m key (EndsAt key bytes place)
+pub found_nothing : (at : ℕ → Body) (m : Meta) (key : Key) (near : List ℕ)
+    (found : Option FoundContent) → found ≡ None
+    → IsSearch at m key (EndsAtFound key near found)
     → IsSearch at m key (EndsAtContent at key None)
-found_nothing at m key bytes place is s =
-    subst (λ (p : Option Place). IsSearch at m key (EndsAt key bytes p)) is s
+found_nothing at m key near found is s =
+    subst (λ (f : Option FoundContent). IsSearch at m key (EndsAtFound key near f)) is s
 
--- a record that was found says this content, near in its own bytes
-pub near_content : (at : ℕ → Body) (m : Meta) (key : Key) (bytes : List ℕ) (place : Option Place)
-    (there : Place) → place ≡ Some there → there.slot < length (page_records bytes)
-    → HoldsAt (λ r. told_content r ≡ None) (page_records bytes) there.slot
-    → IsSearch at m key (EndsAt key bytes place)
-    → IsSearch at m key (EndsAtContent at key (Some (record_in bytes there.slot).bytes))
-near_content at m key bytes place there is within near s =
-    ended_so at m key (EndsAt key bytes (Some there)) _
+-- a content beside its key was found
+pub near_content : (at : ℕ → Body) (m : Meta) (key : Key) (near : List ℕ)
+    (found : Option FoundContent) → found ≡ Some Near
+    → IsSearch at m key (EndsAtFound key near found)
+    → IsSearch at m key (EndsAtContent at key (Some near))
+near_content at m key near found is s =
+    ended_so at m key (EndsAtFound key near (Some Near)) (EndsAtContent at key (Some near))
     (λ leaf after ends. (
-      there.slot,
-      ends.has.0,
+      ends.0,
+      ends.1.0,
       λ d.
-          let same = same_slot (page_records bytes) there.slot within d blank in
-          let here = ap (λ (rs : List Record). get_or rs there.slot d) (sym ends.records) ∙ same in
-          subst (SaysPair at (key, (record_in bytes there.slot).bytes)) (sym here)
-          (record {
-            key = ap (λ (r : Record). r.key) (sym here) ∙ ends.has.1 d;
-            content = subst (SaysContent at (record_in bytes there.slot).bytes
-                (record_in bytes there.slot).bytes) (sym (near blank)) refl;
-          }),
+          let r = get_or leaf.records ends.0 d in
+          record {
+            key = ends.1.1 d;
+            content = subst (SaysContent at near r.bytes) (sym (ends.2 d).0) (ends.2 d).1;
+          },
     ))
-    (subst (λ (p : Option Place). IsSearch at m key (EndsAt key bytes p)) is s)
+    (subst (λ (f : Option FoundContent). IsSearch at m key (EndsAtFound key near f)) is s)
 
--- one whose content is far
-pub far_key : (at : ℕ → Body) (m : Meta) (key : Key) (bytes : List ℕ) (place : Option Place)
-    (there : Place) (first long : ℕ) → place ≡ Some there
-    → HoldsAt (λ r. told_content r ≡ Some (first, long)) (page_records bytes) there.slot
-    → IsSearch at m key (EndsAt key bytes place) → IsSearch at m key (EndsAtFar key)
-far_key at m key bytes place there first long is far s =
-    ended_so at m key (EndsAt key bytes (Some there)) (EndsAtFar key)
+-- one in pages of its own
+pub far_key : (at : ℕ → Body) (m : Meta) (key : Key) (near : List ℕ)
+    (found : Option FoundContent) (first long : ℕ) → found ≡ Some (Far first long)
+    → IsSearch at m key (EndsAtFound key near found) → IsSearch at m key (EndsAtFar key)
+far_key at m key near found first long is s =
+    ended_so at m key (EndsAtFound key near (Some (Far first long))) (EndsAtFar key)
     (λ leaf after ends. (
-      there.slot,
-      ends.has,
-      λ d. subst (λ (rs : List Record). IsSome (told_content (get_or rs there.slot d))) ends.records
-          (subst (λ (o : Option (ℕ × ℕ)). IsSome o) (sym (far d)) refl),
+      ends.0,
+      ends.1,
+      λ d. subst (λ (o : Option (ℕ × ℕ)). IsSome o) (sym (ends.2 d)) refl,
     ))
-    (subst (λ (p : Option Place). IsSearch at m key (EndsAt key bytes p)) is s)
+    (subst (λ (f : Option FoundContent). IsSearch at m key (EndsAtFound key near f)) is s)
 
--- or far in pages of its own
-pub far_content : (at : ℕ → Body) (m : Meta) (key : Key) (bytes content : List ℕ)
-    (place : Option Place) (there : Place) (first long : ℕ) → place ≡ Some there
-    → there.slot < length (page_records bytes)
-    → HoldsAt (λ r. told_content r ≡ Some (first, long)) (page_records bytes) there.slot
+-- and these pages say it
+pub far_content : (at : ℕ → Body) (m : Meta) (key : Key) (near content : List ℕ)
+    (found : Option FoundContent) (first long : ℕ) → found ≡ Some (Far first long)
     → length content ≡ long → IsContentAt at first content
-    → IsSearch at m key (EndsAt key bytes place)
+    → IsSearch at m key (EndsAtFound key near found)
     → IsSearch at m key (EndsAtContent at key (Some content))
-far_content at m key bytes content place there first long is within far size says s =
-    ended_so at m key (EndsAt key bytes (Some there)) (EndsAtContent at key (Some content))
+far_content at m key near content found first long is size says s =
+    ended_so at m key (EndsAtFound key near (Some (Far first long)))
+    (EndsAtContent at key (Some content))
     (λ leaf after ends. (
-      there.slot,
-      ends.has.0,
+      ends.0,
+      ends.1.0,
       λ d.
-          let here = ap (λ (rs : List Record). get_or rs there.slot d) (sym ends.records) in
-          subst (SaysPair at (key, content)) (sym here)
-          (record {
-            key = ap (λ (r : Record). r.key) (sym here) ∙ ends.has.1 d;
-            content = subst (SaysContent at content (get_or (page_records bytes) there.slot d).bytes)
-                (sym (far d)) (size, says);
-          }),
+          let r = get_or leaf.records ends.0 d in
+          record {
+            key = ends.1.1 d;
+            content = subst (SaysContent at content r.bytes) (sym (ends.2 d)) (size, says);
+          },
     ))
-    (subst (λ (p : Option Place). IsSearch at m key (EndsAt key bytes p)) is s)
+    (subst (λ (f : Option FoundContent). IsSearch at m key (EndsAtFound key near f)) is s)
 
 -- the search for a content of which it is known that it is the same
 pub searched_content : (at : ℕ → Body) (m : Meta) (key : Key) (found answer : Option (List ℕ))

@@ -6,26 +6,25 @@ ghost use Rattle.seg_table.specs.MetaPages.{model_meta};
 
 use crate::pass::Pass;
 use crate::{Fault, Stat};
-use bucket_chain::PageRanks;
+use bucket_chain::{FoundContent, NearContent, PageRanks};
 use content_pages::read_content;
-use linear_hash::find_pair;
+use linear_hash::find_content;
 use page_cache::CachedPages;
 use page_io::{Page, PageFault, PageStore, Version};
 use redo_area::Pager;
 use seg_table::Meta;
-use slot_page::{far_at, pair_at};
 use std::alloc::Global;
 
 /// An open database over a device of sectors, whose clean pages are kept in memory.
 pub type Db<D> = Database<CachedPages<Pager<D>>>;
 
-/// Where a content is that was found.
+/// Which buffer a content is in that was found.
 #[derive(Clone, Copy)]
 pub(crate) enum Found {
-    /// In this slot of the page.
-    InPage(usize),
-    /// In the buffer.
-    InBuffer,
+    /// That of contents beside their keys.
+    Near,
+    /// That of contents in pages of their own.
+    Far,
 }
 
 /// An open database over a store of pages.
@@ -34,8 +33,10 @@ pub struct Database<S: PageStore> {
     pub(crate) store: S,
     pub(crate) meta: Meta,
     pub(crate) page: Page,
-    // The last content that was fetched of those that lie in pages of their own.
-    pub(crate) content: Vec<u8>,
+    // The last contents that were fetched: of those beside their keys, and of those in pages of their
+    // own.
+    pub(crate) near: NearContent,
+    pub(crate) far: Vec<u8>,
     pub(crate) error: Option<Fault>,
     pub(crate) pass: Pass,
     // Of the head page that a pass looked at last.
@@ -68,7 +69,7 @@ impl<S: PageStore> Database<S> {
     ghost use Rattle.dbm_file.specs.Calls.{lent_reply, seen};
     ghost use Rattle.dbm_file.specs.Database.{store_of, meta_kept, page_state, error_of, IsAt, AtEachHandle};
     ghost use Rattle.dbm_file.specs.Ending.{EndsAs};
-    ghost use Rattle.dbm_file.specs.Fetching.{IsThere, content_in};
+    ghost use Rattle.dbm_file.specs.Fetching.{IsShort, content_in};
     ghost use Rattle.dbm_file.specs.Lending.{Lends};
     ghost use Rattle.dbm_file.specs.Passing.{pass_of};
     ghost use Rattle.dbm_file.specs.Replies.{fetch_faults};
@@ -106,8 +107,8 @@ impl<S: PageStore> Database<S> {
         }
         match self.find(key) {
             Ok(None) => Ok(None),
-            Ok(Some(Found::InPage(slot))) => Ok(Some(pair_at(&self.page, slot).1)),
-            Ok(Some(Found::InBuffer)) => Ok(Some(self.content.as_slice())),
+            Ok(Some(Found::Near)) => Ok(Some(self.near.as_slice())),
+            Ok(Some(Found::Far)) => Ok(Some(self.far.as_slice())),
             Err(fault) => refuse(&mut self.error, Fault::from(fault)),
         }
     }
@@ -181,7 +182,7 @@ impl<S: PageStore> Database<S> {
         ensures answer { IsLoadAnswer (page_state self.old) result }
         ensures memory { IsErrOf result Memory → ((meta_kept self.old).bounds.version ≡ V2)
             × Searched self.old key.now (EndsAtFar key.now) }
-        ensures held { IfOk result (λ found. IfSome found (IsThere self.new)) }
+        ensures held { IfOk result (λ found. IfSome found (IsShort self.new)) }
         ensures searched { IfOk result (λ found. Searched self.old key.now
             (EndsAtContent (body_at S.PageStore (store_of self.old)) key.now
             (content_in self.new found))) }
@@ -196,14 +197,21 @@ impl<S: PageStore> Database<S> {
             → Holds S.PageStore (store_of self.old) (meta_kept self.old) map
             → IsErrOf result Damaged → ⊥ }
     {
-        let Some(place) = find_pair(&mut self.store, &self.meta, key, &mut self.page)? else {
-            return Ok(None);
-        };
-        let Some((first, long)) = far_at(&self.page, place.slot) else {
-            return Ok(Some(Found::InPage(place.slot)));
-        };
-        read_content(&mut self.store, first, long, &mut self.content)?;
-        Ok(Some(Found::InBuffer))
+        let found = find_content(
+            &mut self.store,
+            &self.meta,
+            key,
+            &mut self.near,
+            &mut self.page,
+        )?;
+        match found {
+            None => Ok(None),
+            Some(FoundContent::Near) => Ok(Some(Found::Near)),
+            Some(FoundContent::Far { first, long }) => {
+                read_content(&mut self.store, first, long, &mut self.far)?;
+                Ok(Some(Found::Far))
+            }
+        }
     }
 }
 

@@ -19,7 +19,7 @@ ghost use Rattle.dbm_file.specs.Opened.{pages_kept, device_below, device_opened,
 use crate::database::{Database, Db};
 use crate::pass::Pass;
 use crate::{Fault, OpenHow};
-use bucket_chain::PageRanks;
+use bucket_chain::{NearContent, PageRanks};
 use file_opening::open_file;
 use page_cache::CachedPages;
 use page_io::{Page, PageStore};
@@ -127,7 +127,8 @@ impl<D: SectorDev> Database<CachedPages<Pager<D>>> {
                 store: keeping(alloc, file.store, how.kept_pages),
                 meta: file.meta,
                 page: Page::blank(),
-                content: Vec::new(alloc),
+                near: NearContent::new(),
+                far: Vec::new(alloc),
                 error: None,
                 pass: Pass::NotBegun,
                 ranks: PageRanks::new(),

@@ -10,6 +10,7 @@ use Rattle.page_model.specs.Pages.{Meta, Body, Record}
 use Rattle.dbm_model.specs.Pairs.{Key, Pair, key_cmp}
 use Rattle.page_model.specs.Chain.{Chain, numbers, pairs_in, record_of}
 use Rattle.page_io.specs.BucketPages.{page_records}
+use Rattle.slot_page.specs.Contents.{told_content}
 use Rattle.page_model.specs.Placement.{Placement, contents, key_bucket, chain_at, IsSound}
 use Rattle.page_model.specs.PageBodies.{first_of, heads_of, segment_bodies, lower_bodies, AreRead}
 use Rattle.page_model.proofs.AddressLemmas.{address_below}
@@ -25,11 +26,14 @@ use Rattle.seg_table.specs.Placements.{HasHeads}
 use Rattle.seg_table.proofs.PlacementHeads.{heads_read, used_segments}
 use Rattle.bucket_chain.specs.Chains.{IsChainAt}
 use Rattle.bucket_chain.specs.Changes.{IsPlaced}
+use Rattle.bucket_chain.specs.ContentLookups.{TellsContent, IsContentFound}
 use Rattle.bucket_chain.specs.Walks.{IsLookedUp}
+use Rattle.bucket_chain.specs.declared.content_lookups.FoundContent.{FoundContent}
+use Rattle.bucket_chain.specs.declared.content_lookups.FoundContent.TheVariants.{Near, Far}
 use Rattle.bucket_chain.specs.declared.place.Place.{Place}
 use Rattle.bucket_chain.proofs.PlacedChains.{chains_placed}
 use Rattle.linear_hash.specs.Tables.{shape_in, IsTable}
-use Rattle.linear_hash.specs.Looking.{IsFound, SaysPair}
+use Rattle.linear_hash.specs.Looking.{IsFound, IsFoundContent, SaysContent, SaysPair}
 use Rattle.linear_hash.proofs.FoundPairs.{told_pair}
 
 -- the bucket as the code finds it
@@ -160,3 +164,36 @@ found_in at m end p key bytes place table looked = by_place place looked
         subst (λ (o : Option (List ℕ)). IsFound at key o bytes (Some spot)) (sym (has ∙ some.found))
         (holds_of (SaysPair at (key, e.pair.1)) (record_of e) (page_records bytes) spot.slot
         some.there (subst (λ (q : Pair). SaysPair at q (record_of e)) pair_is says))
+
+-- so is the content that is found there
+pub content_found : (at : ℕ → Body) (m : Meta) (end : ℕ) (p : Placement) (key : Key)
+    (near : List ℕ) (found : Option FoundContent) → IsTable at m end p
+    → IsContentFound key (chain_at p (key_bucket p.shape key)) near found
+    → IsFoundContent at (get (contents p) key) near found
+content_found at m end p key near found table looked = by_found found looked
+  where
+    chain : Chain
+    chain = chain_at p (key_bucket p.shape key)
+
+    has : get (contents p) key ≡ find key_cmp key (pairs_in chain)
+    has = looks_in_one_chain p key table.good.sound
+
+    told : (r : Record) (content : List ℕ) (f : FoundContent) → TellsContent r near f
+        → SaysContent at content r.bytes (told_content r)
+        → IsFoundContent at (Some content) near (Some f)
+    told r content Near tells says =
+        sym tells.1 ∙ subst (SaysContent at content r.bytes) tells.0 says
+    told r content (Far first long) tells says = subst (SaysContent at content r.bytes) tells says
+
+    by_found : (found : Option FoundContent) → IsContentFound key chain near found
+        → IsFoundContent at (get (contents p) key) near found
+    by_found None none = subst (λ (o : Option (List ℕ)). IsFoundContent at o near None)
+        (sym (has ∙ none)) refl
+    by_found (Some f) some =
+        let e = some.entry in
+        let says = told_pair p.bounds.version at (state_of p.space) _ chain p.space e
+        (chains_placed at (state_of p.space) [] p (key_bucket p.shape key) table.good.sound
+        (end_small p table.good) (record { are_read = table.are_read; kept = refl })
+        (below_of p key table)) (end_small p table.good) some.among in
+        subst (λ (o : Option (List ℕ)). IsFoundContent at o near (Some f)) (sym (has ∙ some.first))
+        (told (record_of e) e.pair.1 f some.tells says.content)

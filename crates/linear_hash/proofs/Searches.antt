@@ -4,9 +4,12 @@ use Rattle.page_model.specs.Address.{address, hash_of}
 use Rattle.page_model.specs.Pages.{Meta, Body}
 use Rattle.dbm_model.specs.Pairs.{Key}
 use Rattle.seg_table.specs.Heads.{HasEntry, SaysSegment}
+use Rattle.bucket_chain.specs.Chains.{ReadLeaf}
+use Rattle.bucket_chain.specs.ContentLookups.{IsContentLook}
 use Rattle.bucket_chain.specs.Walks.{IsWalk, LacksKey, IsLookup, CanLook}
+use Rattle.bucket_chain.specs.declared.content_lookups.FoundContent.{FoundContent}
 use Rattle.bucket_chain.specs.declared.place.Place.{Place}
-use Rattle.linear_hash.specs.Looking.{IsSearch, CanSearch, key_segment, key_entry, EndsAt}
+use Rattle.linear_hash.specs.Looking.{IsSearch, CanSearch, key_segment, key_entry, EndsAt, EndsAtFound}
 use Rattle.linear_hash.specs.Tables.{shape_in}
 
 -- a look along the chain, by how it ended
@@ -15,21 +18,40 @@ walk_of : (at : ℕ → Body) (head : ℕ) (key : Key) (bytes : List ℕ) (place
 walk_of at head key bytes None looked = looked
 walk_of at head key bytes (Some place) looked = looked
 
+content_walk_of : (at : ℕ → Body) (head : ℕ) (key : Key) (near : List ℕ)
+    (found : Option FoundContent) → IsContentLook at head key near found
+    → IsWalk at head (LacksKey key) (EndsAtFound key near found)
+content_walk_of at head key near None looked = looked
+content_walk_of at head key near (Some found) looked = looked
+
 -- the head was read from the pages as they were at first, and the chain from pages that say the
 -- same
-pub searched_from : {E : Type 0} (at at' : ℕ → Body) (m : Meta) (key : Key) (bucket head : ℕ)
-    (bytes : List ℕ) (r : Result (Option Place) E) → bucket ≡ address (shape_in m) (hash_of key)
-    → HasEntry (at (slice_index m.segments (bucket / 508))) (bucket % 508) head → at' ≡ at
-    → IfOk r (IsLookup at' head key bytes)
-    → IfOk r (λ place. IsSearch at m key (EndsAt key bytes place))
-searched_from at at' m key bucket head bytes (Ok place) is entry same looked = record {
-  head = head;
-  segment = subst (λ (b : ℕ). HasEntry (at (slice_index m.segments (b / 508))) (b % 508) head) is
-      entry;
-  walk = subst (λ (f : ℕ → Body). IsWalk f head (LacksKey key) (EndsAt key bytes place)) same
-      (walk_of at' head key bytes place looked);
-}
-searched_from at at' m key bucket head bytes (Err e) is entry same looked = tt
+module _ (at at' : ℕ → Body) (m : Meta) (key : Key) (bucket head : ℕ)
+    (is : bucket ≡ address (shape_in m) (hash_of key))
+    (entry : HasEntry (at (slice_index m.segments (bucket / 508))) (bucket % 508) head)
+    (same : at' ≡ at) where
+  search_of : (Last : ReadLeaf → ℕ → Type 0) → IsWalk at' head (LacksKey key) Last
+      → IsSearch at m key Last
+  search_of Last walk = record {
+    head = head;
+    segment = subst (λ (b : ℕ). HasEntry (at (slice_index m.segments (b / 508))) (b % 508) head) is
+        entry;
+    walk = subst (λ (f : ℕ → Body). IsWalk f head (LacksKey key) Last) same walk;
+  }
+
+  pub searched_from : {E : Type 0} (bytes : List ℕ) (r : Result (Option Place) E)
+      → IfOk r (IsLookup at' head key bytes)
+      → IfOk r (λ place. IsSearch at m key (EndsAt key bytes place))
+  searched_from bytes (Ok place) looked =
+      search_of (EndsAt key bytes place) (walk_of at' head key bytes place looked)
+  searched_from bytes (Err e) looked = tt
+
+  pub content_from : {E : Type 0} (near : List ℕ) (r : Result (Option FoundContent) E)
+      → IfOk r (IsContentLook at' head key near)
+      → IfOk r (λ found. IsSearch at m key (EndsAtFound key near found))
+  content_from near (Ok found) looked =
+      search_of (EndsAtFound key near found) (content_walk_of at' head key near found looked)
+  content_from near (Err e) looked = tt
 
 -- what can be read at first: the segment's page, and from the head on that was read of it the chain
 pub segment_from : (at : ℕ → Body) (m : Meta) (end : ℕ) (key : Key) (bucket : ℕ)

@@ -11,6 +11,9 @@ use Rattle.slot_page.specs.Contents.{HasKeyAt, told_content}
 use Rattle.content_pages.specs.Contents.{IsContentAt}
 use Rattle.bucket_chain.specs.Chains.{ReadLeaf}
 use Rattle.bucket_chain.specs.Walks.{IsWalk, LacksKey, EndsWithout, IsRecordAt, CanLook}
+use Rattle.bucket_chain.specs.ContentLookups.{TellsKey}
+use Rattle.bucket_chain.specs.declared.content_lookups.FoundContent.{FoundContent}
+use Rattle.bucket_chain.specs.declared.content_lookups.FoundContent.TheVariants.{Near, Far}
 use Rattle.bucket_chain.specs.declared.place.Place.{Place}
 use Rattle.linear_hash.specs.Tables.{shape_in}
 
@@ -46,6 +49,11 @@ abbrev pub EndsAt : Key → List ℕ → Option Place → ReadLeaf → ℕ → T
 EndsAt key bytes None leaf after = EndsWithout key leaf after
 EndsAt key bytes (Some place) leaf after = IsRecordAt key bytes place leaf after
 
+-- it ended at the key's record, which tells the content that was found, or behind all pages
+abbrev pub EndsAtFound : Key → List ℕ → Option FoundContent → ReadLeaf → ℕ → Type 0
+EndsAtFound key near None leaf after = EndsWithout key leaf after
+EndsAtFound key near (Some found) leaf after = TellsKey key near found leaf after
+
 -- a record says this content: near in its own bytes, far in the pages of which it tells the first
 abbrev pub SaysContent : (ℕ → Body) → List ℕ → List ℕ → Option (ℕ × ℕ) → Type 0
 SaysContent at content bytes None = bytes ≡ content
@@ -62,3 +70,11 @@ IsFound at key None bytes place = place ≡ None
 IsFound at key (Some content) bytes None = ⊥
 IsFound at key (Some content) bytes (Some place) =
     HoldsAt (SaysPair at (key, content)) (page_records bytes) place.slot
+
+-- what was found is this content, in the room or in the pages that it tells, or no content
+abbrev pub IsFoundContent : (ℕ → Body) → Option (List ℕ) → List ℕ → Option FoundContent → Type 0
+IsFoundContent at None near found = found ≡ None
+IsFoundContent at (Some content) near None = ⊥
+IsFoundContent at (Some content) near (Some Near) = near ≡ content
+IsFoundContent at (Some content) near (Some (Far first long)) =
+    (length content ≡ long) × IsContentAt at first content

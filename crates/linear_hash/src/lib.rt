@@ -9,5 +9,5 @@ mod splitting;
 mod staging;
 
 pub use changes::{delete_pair, store_pair, upgrade};
-pub use looking::find_pair;
+pub use looking::{find_content, find_pair};
 pub use passing::next_pair;

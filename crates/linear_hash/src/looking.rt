@@ -11,9 +11,10 @@ ghost use Rattle.page_io.specs.declared.store.PageFault.TheVariants.{Damaged};
 ghost use Rattle.seg_table.specs.MetaPages.{model_meta};
 ghost use Rattle.bucket_chain.specs.WalkAnswers.{IsWalkAnswer};
 ghost use Rattle.linear_hash.specs.Tables.{ForEachTable};
-ghost use Rattle.linear_hash.specs.Looking.{IsHeld, IsFound, IsSearch, CanSearch, EndsAt};
+ghost use Rattle.bucket_chain.specs.ContentLookups.{IsOfVersion};
+ghost use Rattle.linear_hash.specs.Looking.{IsHeld, IsFound, IsFoundContent, IsSearch, CanSearch, EndsAt, EndsAtFound};
 
-use bucket_chain::{Place, lookup};
+use bucket_chain::{FoundContent, NearContent, Place, lookup, lookup_content};
 use lin_addr::hash;
 use page_io::{Page, PageFault, PageStore};
 use seg_table::{Meta, head_of};
@@ -54,4 +55,40 @@ pub fn find_pair<S: PageStore>(
 {
     let head = head_of(store, meta, meta.shape.bucket(hash(key)), page)?;
     lookup(store, head, key, page, meta.version)
+}
+
+/// Where the content of the key is. It is put into `room` where it lies beside the key. The pages
+/// of `find_pair` are read, into `page` where the store doesn't lend them, and the same faults are
+/// answered.
+pub fn find_content<S: PageStore>(
+    store: &mut S,
+    meta: &Meta,
+    key: &[u8],
+    room: &mut NearContent,
+    page: &mut Page,
+) -> Result<Option<FoundContent>, PageFault>
+    requires { IsMeta (model_meta meta.now) }
+    ensures reads { IsReadingCall S.PageStore store.old store.new result }
+    ensures answer { IsWalkAnswer (S.state store.old) result }
+    ensures of_version { IfOk result (λ found. IfSome found
+        (IsOfVersion (model_version meta.now.version) key.now)) }
+
+    // On any file the key's bucket was searched.
+    ensures searched { S.honest store.old → IfOk result (λ found.
+        IsSearch (body_at S.PageStore store.old) (model_meta meta.now) key.now
+        (EndsAtFound key.now room.new.items found)) }
+    ensures exact { ForEachTable S.PageStore store.old (model_meta meta.now) (λ p.
+        IfOk result (IsFoundContent (body_at S.PageStore store.old) (get (contents p) key.now)
+        room.new.items)) }
+    ensures whole { ForEachTable S.PageStore store.old (model_meta meta.now) (λ p.
+        IsErrOf result Damaged → ⊥) }
+
+    // Nor is it Damaged where only other pages are than those that it reads.
+    ensures readable { S.honest store.old
+        → CanSearch (body_at S.PageStore store.old) (model_meta meta.now)
+        (S.state store.old).end key.now
+        → IsErrOf result Damaged → ⊥ }
+{
+    let head = head_of(store, meta, meta.shape.bucket(hash(key)), page)?;
+    lookup_content(store, head, key, room, page, meta.version)
 }

@@ -4,7 +4,7 @@ ghost use Rattle.page_cache.specs.Copies.{copies_of};
 ghost use Rattle.page_cache.specs.Current.{AreCurrent};
 
 use crate::page_copies::PageCopies;
-use page_io::{Page, PageFault, PageStore, ServedStore, Version};
+use page_io::{LentPage, Page, PageFault, PageStore, ServedStore, Version};
 use sect_dev::Told;
 use std::alloc::{AllocError, Global};
 use std::num::NonZeroUsize;
@@ -99,11 +99,11 @@ impl<S: PageStore> CachedPages<S> {
 }
 
 impl<S: PageStore> PageStore for CachedPages<S> {
-    ghost use Rattle.std.specs.Prelude.{◌↔◌, OnOk, IfOk, IfSome, IsOk};
+    ghost use Rattle.std.specs.Prelude.{◌↔◌, true, OnOk, IfOk, IfSome, IsSome, IsOk};
     ghost use Rattle.page_io.specs.BucketPages.{IsPageOf};
     ghost use Rattle.page_io.specs.Answers.{HasDeviceCause, IsReadAnswer};
     ghost use Rattle.page_io.specs.Kept.{KeepsPages};
-    ghost use Rattle.page_io.specs.Store.{page_of, overlaid};
+    ghost use Rattle.page_io.specs.Store.{page_of, overlaid, IsKnown};
     ghost use Rattle.page_io.specs.Versions.{model_version};
     ghost use Rattle.page_cache.specs.Current.{IsReadable};
     ghost use Rattle.page_cache.specs.Stores.{store_below, HasCopy};
@@ -173,6 +173,34 @@ impl<S: PageStore> PageStore for CachedPages<S> {
         let known = self.store.read(n, page)?;
         self.copies.keep(n, page, known);
         Ok(known)
+    }
+
+    /// As the trait says, and a page that has a copy is lent.
+    fn lend(&self, n: u32) -> Option<LentPage<'_>>
+        ensures found { IfSome result (λ lent. ⟦<CachedPages<S> as PageStore>⟧.honest self.now
+            → lent.page.now.bytes
+            ≡ overlaid (⟦<CachedPages<S> as PageStore>⟧.state self.now).staged
+            (page_of (⟦<CachedPages<S> as PageStore>⟧.committed self.now)) n) }
+        ensures known { IfSome result (λ lent. IfSome lent.known
+            (λ version. IsPageOf (model_version version) lent.page.now.bytes)) }
+        ensures readable { IfSome result
+            (λ lent. ((⟦<CachedPages<S> as PageStore>⟧.state self.now).usable ≡ true)
+            × IsKnown (⟦<CachedPages<S> as PageStore>⟧.state self.now) n) }
+        ensures hit { IsReadable (⟦<CachedPages<S> as PageStore>⟧.state self.now) n
+            → HasCopy self.now n → IsSome result }
+    {
+        if !self.is_readable(n) {
+            return None;
+        }
+        let copy = self.copies.lend(n)?;
+        Some(LentPage {
+            page: &copy.page,
+            known: copy.known,
+        })
+    }
+
+    fn promote(&mut self, n: u32) {
+        self.copies.promote(n);
     }
 
     fn note(&mut self, n: u32, page: &Page, version: Version) {

@@ -111,6 +111,30 @@ impl PageCopies {
         }
     }
 
+    /// The copy of page n, if there is one.
+    pub fn lend(&self, n: u32) -> Option<&PageCopy>
+        ensures found { is_some result ≡ has_copy (copies_of self.now) n }
+        ensures copy { IfSome result (λ lent. (copy : Box OneCopy)
+            × Contains (copies_of self.now) (n, copy) × (copy.value ≡ lent.now)) }
+    {
+        let Some(pages) = &self.pages else {
+            return None;
+        };
+        match pages.peek(&n) {
+            Some(copy) => Some(copy),
+            None => None,
+        }
+    }
+
+    /// Keeps the copy of page n longer than those that were not used since.
+    pub fn promote(&mut self, n: u32)
+        ensures { copies_of self.new ≡ promoted (nat_eq n) (copies_of self.old) }
+    {
+        if let Some(pages) = &mut self.pages {
+            pages.promote(&n);
+        }
+    }
+
     /// Keeps a copy of page n where its room isn't refused, in the place of an older one.
     pub fn keep(&mut self, n: u32, page: &Page, known: Option<Version>)
         requires { IfSome known (λ version. IsPageOf (model_version version) page.now.bytes) }

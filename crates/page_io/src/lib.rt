@@ -21,5 +21,5 @@ pub use plain::are_bytes;
 pub use sectors::{read_page, write_page};
 pub use served::ServedStore;
 pub use staged::{StagedPages, find_staged, hand_over, is_among, next_staged, put_staged};
-pub use store::{PageFault, PageStore};
+pub use store::{LentPage, PageFault, PageStore};
 pub use version::Version;

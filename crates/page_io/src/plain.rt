@@ -10,7 +10,7 @@ ghost use Rattle.page_io.specs.declared.page.TheConstants.{PAGE_LEN};
 
 use crate::Page;
 
-/// A proof learns here that bytes are below 256. The program does nothing.
+/// Does nothing. A proof learns here that bytes are below 256.
 pub fn are_bytes(bytes: &[u8])
     ensures { (k : ℕ) → slice_index bytes.now k < 256 }
 {}

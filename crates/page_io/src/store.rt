@@ -2,7 +2,7 @@
 ghost use Rattle.std.specs.Prelude.{◌≡◌, ◌⊎◌, ◌<◌, ◌≤◌, ◌+◌, ◌^◌, ◌↔◌, ℕ, [], true, false, length, IfErr, OnOk, OnErr, IfOk, IfSome, IsErrOf, IsTrue};
 ghost use Rattle.sect_dev.specs.Device.{Moment, LeavesOnly};
 ghost use Rattle.page_io.specs.Page.{own_number};
-ghost use Rattle.page_io.specs.Store.{Pages, Settled, file_of, StoreState, IsEither, page_of, overlaid, put_page, has_page, are_in_order, committed_with, AllBelow, IsNextOf};
+ghost use Rattle.page_io.specs.Store.{Pages, Settled, file_of, StoreState, IsKnown, IsEither, page_of, overlaid, put_page, has_page, are_in_order, committed_with, AllBelow, IsNextOf};
 ghost use Rattle.page_io.specs.BucketPages.{IsPageOf};
 ghost use Rattle.page_io.specs.Kept.{KeepsPages};
 ghost use Rattle.page_io.specs.Answers.{HasDeviceCause, IsReadAnswer, IsStageAnswer, IsCommitAnswer, IsSettleAnswer, IsRefusal};
@@ -27,6 +27,13 @@ pub enum PageFault {
     NoRoom,
     /// The page is not one of the file's.
     Damaged,
+}
+
+/// A page in memory, and the version of which it is known to be a bucket page, if it is known of one.
+#[derive(Clone, Copy)]
+pub struct LentPage<'a> {
+    pub page: &'a Page,
+    pub known: Option<Version>,
 }
 
 /// Pages that a commit changes whole or not at all, wherever a stop falls.
@@ -86,6 +93,29 @@ pub trait PageStore {
         requires bucket { IsPageOf (model_version version) page.now.bytes }
         requires read { honest self.old → page.now.bytes
             ≡ overlaid (state self.old).staged (page_of (committed self.old)) n }
+        ensures state { state self.new ≡ state self.old }
+        ensures kept { honest self.old
+            → KeepsPages committed moment settled_since settles_to self.old self.new }
+        ensures honesty { honest self.new ↔ honest self.old }
+        ensures faults { faults self.new ≡ faults self.old }
+    {}
+
+    /// Lends page n where it lies in memory, as a read would give it. A store that keeps no pages
+    /// lends none.
+    fn lend(&self, n: u32) -> Option<LentPage<'_>>
+        ensures found { IfSome result (λ lent. honest self.now → lent.page.now.bytes
+            ≡ overlaid (state self.now).staged (page_of (committed self.now)) n) }
+        ensures known { IfSome result (λ lent. IfSome lent.known
+            (λ version. IsPageOf (model_version version) lent.page.now.bytes)) }
+        ensures readable { IfSome result
+            (λ lent. ((state self.now).usable ≡ true) × IsKnown (state self.now) n) }
+    {
+        None
+    }
+
+    /// Is told that page n is used. A store that keeps pages keeps it longer than those that were
+    /// not used since.
+    fn promote(&mut self, n: u32)
         ensures state { state self.new ≡ state self.old }
         ensures kept { honest self.old
             → KeepsPages committed moment settled_since settles_to self.old self.new }

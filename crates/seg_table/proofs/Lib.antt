@@ -1,6 +1,7 @@
 pub mod Entries
 pub mod EntryTexts
 pub mod HeadLists
+pub mod HeadReads
 pub mod HeadSets
 pub mod HeadTexts
 pub mod Metas

@@ -1,6 +1,7 @@
 //! The table of segments: a map from bucket to head page.
 
-ghost use Rattle.std.specs.Prelude.{◌≡◌, ◌<◌, ◌≤◌, ◌+◌, ◌/◌, ◌%◌, ℕ, List, IfOk, OnOk, OnErr, IsErrOf, length, slice_index};
+ghost use Rattle.std.specs.Prelude.{◌≡◌, ◌<◌, ◌≤◌, ◌+◌, ◌*◌, ◌/◌, ◌%◌, ℕ, List, IfOk, IfSome, OnOk, OnErr, IsErrOf, length, slice_index};
+ghost use Rattle.page_model.specs.Bytes.{u32_at};
 ghost use Rattle.page_model.specs.Space.{Space};
 ghost use Rattle.page_io.specs.Calls.{IsReadingCall, IsStagingCall};
 ghost use Rattle.page_io.specs.Store.{IsKnown};
@@ -17,6 +18,13 @@ use crate::Meta;
 use crate::segment::{HEADS_AT, PER_SEGMENT, SEGMENT, segment_ok};
 use free_pages::{FreeState, take};
 use page_io::{Page, PageFault, PageStore};
+
+/// The number in the place of a bucket in its segment's page.
+fn head_in(page: &Page, bucket: u32) -> u32
+    ensures { result ≡ u32_at page.now.bytes (16 + 4 * (bucket % 508)) }
+{
+    page.u32_at(HEADS_AT + 4 * (bucket as usize % PER_SEGMENT))
+}
 
 /// Reads the page of segment `s`, which is Damaged where it is no such page.
 fn read_segment<S: PageStore>(
@@ -47,8 +55,29 @@ fn read_segment<S: PageStore>(
     }
 }
 
+/// The head page of a bucket that the segment page says which the store lends. None where it lends
+/// none, or one that is no such page.
+fn lent_head<S: PageStore>(store: &S, meta: &Meta, bucket: u32) -> Option<u32>
+    requires { bucket / 508 < length meta.now.segments.items }
+    ensures entry { S.honest store.now
+        → IfSome result (λ head. HasEntry
+        (body_at S.PageStore store.now (slice_index meta.now.segments.items (bucket / 508)))
+        (bucket % 508) head) }
+    ensures exact { S.honest store.now → (heads : List ℕ)
+        → AreHeads (body_at S.PageStore store.now) (model_meta meta.now) heads
+        → bucket < length heads → IfSome result (λ head. head ≡ slice_index heads bucket) }
+{
+    let s = bucket as usize / PER_SEGMENT;
+    let lent = store.lend(meta.segments[s])?;
+    if segment_ok(lent.page, meta, s) {
+        Some(head_in(lent.page, bucket))
+    } else {
+        None
+    }
+}
+
 /// The head page of a bucket. Damaged is answered where the bucket's segment page is none. It is
-/// read into `page`.
+/// read into `page` where the store doesn't lend it.
 pub fn head_of<S: PageStore>(
     store: &mut S,
     meta: &Meta,
@@ -76,8 +105,13 @@ pub fn head_of<S: PageStore>(
         → SaysSegment (body_at S.PageStore store.old) (model_meta meta.now) (bucket / 508)
         → IsErrOf result Damaged → ⊥ }
 {
-    read_segment(store, meta, bucket as usize / PER_SEGMENT, page)?;
-    Ok(page.u32_at(HEADS_AT + 4 * (bucket as usize % PER_SEGMENT)))
+    let s = bucket as usize / PER_SEGMENT;
+    if let Some(head) = lent_head(store, meta, bucket) {
+        store.promote(meta.segments[s]);
+        return Ok(head);
+    }
+    read_segment(store, meta, s, page)?;
+    Ok(head_in(page, bucket))
 }
 
 /// Sets the head page of a bucket that there is, or of the next one, which can be read once the

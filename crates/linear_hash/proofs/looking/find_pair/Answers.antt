@@ -87,8 +87,8 @@ pub returns-clause-searched : goal.returns-clause-searched
 returns-clause-searched g c honest =
     let reads = c.in_ok-head.ensures.reads.only in
     searched_from _ _ (model_meta c.args.meta.now) c.args.key.now c.bucket.result c.in_ok-head.head
-    c.lookup.new.page.bytes c.lookup.result (bucket_is g c) (c.in_ok-head.ensures.entry honest)
-    (same_said g.S.PageStore _ _ reads honest)
+    (bucket_is g c) (c.in_ok-head.ensures.entry honest)
+    (same_said g.S.PageStore _ _ reads honest) c.lookup.new.page.bytes c.lookup.result
     (c.lookup.ensures.walked (reads.stages_only.honesty.1 honest))
 
 pub returns-clause-exact : goal.returns-clause-exact

@@ -1,12 +1,14 @@
-use Rattle.std.proofs.Common.{◌/◌, ◌%◌, ◌∙◌, ℕ, List, get_or, ap, sym, arith, refl}
+use Rattle.std.proofs.Common.{◌/◌, ◌%◌, ◌∙◌, get_or, ap, subst, sym, refl, arith}
 use Rattle.std.proofs.lemmas.Result.{IfOk-from_err}
-use Rattle.page_model.specs.Reading.{body_of, heads_on}
+use Rattle.page_model.specs.Reading.{body_of}
 use Rattle.page_io.specs.Views.{body_at}
 use Rattle.page_io.specs.declared.store.PageFault.TheVariants.{Damaged}
+use Rattle.page_io.proofs.Views.{after_read}
 use Rattle.page_io.proofs.Exits.{exit_is, came, cause_first, cause_ok}
-use Rattle.seg_table.proofs.HeadTexts.{entry_is, heads_said, heads_of_said}
+use Rattle.seg_table.specs.Heads.{HasEntry}
+use Rattle.seg_table.proofs.HeadReads.{entry_read, head_read}
 use Rattle.seg_table.proofs.Refusals.{head_heads, no_head_refusal}
-use Rattle.seg_table.proofs.Tables.{part, part_read, part_said, get_or-part}
+use Rattle.seg_table.proofs.Tables.{part_said}
 use Rattle.seg_table.proofs.table.head_of.Goals as goal
 
 -- its segment page is not read
@@ -44,25 +46,39 @@ returns-clause-readable g c honest says damaged = cc
 
 pub returns-clause-entry : goal.returns-clause-entry
 returns-clause-entry g c honest =
+    let at = body_at g.S.PageStore c.args.store.now in
     let bytes = c.read_segment.new.page.bytes in
     let n = get_or c.args.meta.now.segments.items (c.args.bucket / 508) 0 in
-    record {
-      heads = heads_on bytes;
-      segment = ap (body_of n) (sym (c.in_ok-read_segment.ensures.found honest))
-          ∙ heads_said bytes n c.in_ok-read_segment.ensures.segment;
-      entry = c.u32_at.ensures ∙ entry_is bytes (c.args.bucket % 508)
-          c.read_segment.new.page.whole (omega arith);
-    }
+    subst (HasEntry (at n) (c.args.bucket % 508)) (sym c.head_in.ensures)
+    (entry_read at c.args.meta.now.segments.items c.args.bucket bytes
+    c.read_segment.new.page.whole c.in_ok-read_segment.ensures.segment
+    (ap (body_of n) (sym (c.in_ok-read_segment.ensures.found honest))))
 
 pub returns-clause-exact : goal.returns-clause-exact
 returns-clause-exact g c honest heads are lt =
     let bytes = c.read_segment.new.page.bytes in
-    let s = c.args.bucket / 508 in
-    let n = get_or c.args.meta.now.segments.items s 0 in
-    let page = ap (body_of n) (c.in_ok-read_segment.ensures.found honest)
-    ∙ part_read (body_at g.S.PageStore c.args.store.now) c.args.meta.now.segments.items heads s
-    are.are_read c.requires in
-    c.u32_at.ensures ∙ entry_is bytes (c.args.bucket % 508)
-    c.read_segment.new.page.whole (omega arith)
-    ∙ ap (λ (xs : List ℕ). get_or xs (c.args.bucket % 508) 0)
-    (sym (heads_of_said bytes n (part heads s) page)) ∙ get_or-part heads c.args.bucket
+    let n = get_or c.args.meta.now.segments.items (c.args.bucket / 508) 0 in
+    c.head_in.ensures
+    ∙ head_read (body_at g.S.PageStore c.args.store.now) c.args.meta.now.segments.items
+    c.args.bucket bytes c.read_segment.new.page.whole c.in_ok-read_segment.ensures.segment
+    (ap (body_of n) (sym (c.in_ok-read_segment.ensures.found honest))) heads are.are_read
+    c.requires
+
+-- it stands in the page that is lent
+pub returns-in-Some-clause-reads : goal.returns-in-Some-clause-reads
+returns-in-Some-clause-reads g c =
+    let done = c.promote.ensures in
+    record {
+      only = after_read g.S.PageStore _ _ (g.met.S.PageStore.counts_now c.promote.new.self)
+          done.state done.honesty (omega (arith, done.faults)) done.kept;
+      cause = cause_ok _ _ _ (omega (arith, done.faults));
+    }
+
+pub returns-in-Some-clause-answer : goal.returns-in-Some-clause-answer
+returns-in-Some-clause-answer g c = no_head_refusal _ _
+
+pub returns-in-Some-clause-whole : goal.returns-in-Some-clause-whole
+returns-in-Some-clause-whole g c honest heads are damaged = cc
+
+pub returns-in-Some-clause-readable : goal.returns-in-Some-clause-readable
+returns-in-Some-clause-readable g c honest says damaged = cc

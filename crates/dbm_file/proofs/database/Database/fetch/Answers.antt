@@ -5,13 +5,13 @@ use Rattle.page_io.specs.Views.{body_at}
 use Rattle.dbm_file.specs.Database.{meta_kept}
 use Rattle.dbm_file.specs.Fetching.{content_in}
 use Rattle.dbm_file.specs.Rooms.{longest_content}
-use Rattle.dbm_file.specs.declared.database.Found.TheVariants.{InPage, InBuffer}
+use Rattle.dbm_file.specs.declared.database.Found.TheVariants.{Near, Far}
 use Rattle.dbm_file.proofs.Cases.{broken_fetch}
 use Rattle.dbm_file.proofs.ContentSteps.{near_short, found_in}
 use Rattle.dbm_file.proofs.FetchSteps.{fetched_well, fetch_failed, met_damage, met_want, only_these, load_faults}
 use Rattle.dbm_file.proofs.Lends.{lends_broken, lends_nothing}
 use Rattle.dbm_file.proofs.ReadSteps.{not_broken, still_bounds}
-use Rattle.dbm_file.proofs.Searches.{blank, nothing_searched, searched_content}
+use Rattle.dbm_file.proofs.Searches.{nothing_searched, searched_content}
 use Rattle.dbm_file.proofs.database.Database.fetch.Goals as goal
 
 pub returns-then-is_broken : goal.returns-then-is_broken
@@ -65,53 +65,18 @@ returns-in-Ok-None g c =
       },
     )
 
-pub returns-in-Ok-Some-InPage : goal.returns-in-Ok-Some-InPage
-returns-in-Ok-Some-InPage g c =
+pub returns-in-Ok-Some-Near : goal.returns-in-Ok-Some-Near
+returns-in-Ok-Some-Near g c =
     let s = g.S.PageStore in
     let db = c.args.self.now in
     let new = c.find.new.self in
     let key = c.args.key.now in
-    let found = c.in-Ok-Some-InPage in
-    let all = found.ensures in
-    let bytes = (c.pair_at.ensures blank).1 in
-    let there = found.field-0-is ∙ ap Some found.field-0-0-is in
-    let is = ap (content_in new) there ∙ ap Some bytes in
-    let held = found_in new found.field-0 (InPage found.slot) there all.held in
-    let short = near_short _ new.page.bytes found.slot held.0 held.1 in
-    let usable = not_broken _ _ c.is_broken.ensures c.if-is_broken.false in (
-      (
-        refl,
-        (λ _. tt),
-        fetched_well s db new key (Some c.pair_at.result.1) all.reads usable
-            (λ honest map h. sym is ∙ all.exact honest map h),
-      ),
-      record {
-        after = tt;
-        short = subst (λ (b : Bounds). length c.pair_at.result.1.now ≤ longest_content b.version)
-            (still_bounds s db new all.reads)
-            (subst (λ (l : List ℕ). length l ≤ longest_content (meta_kept new).bounds.version) bytes
-            short);
-        searched = λ honest. searched_content (body_at s db.store) _ key _ _ is
-            (all.searched honest);
-        readable = λ can damaged. cc;
-        memory = λ lacks. absurd (let e = lacks in cc);
-        far = λ lacks. absurd (let e = lacks in cc);
-        only = tt;
-      },
-    )
-
-pub returns-in-Ok-Some-InBuffer : goal.returns-in-Ok-Some-InBuffer
-returns-in-Ok-Some-InBuffer g c =
-    let s = g.S.PageStore in
-    let db = c.args.self.now in
-    let new = c.find.new.self in
-    let key = c.args.key.now in
-    let found = c.in-Ok-Some-InBuffer in
+    let found = c.in-Ok-Some-Near in
     let all = found.ensures in
     let bytes = sym c.as_slice.ensures.value in
     let there = found.field-0-is ∙ ap Some found.field-0-0-is in
     let is = ap (content_in new) there ∙ ap Some bytes in
-    let short = found_in new found.field-0 InBuffer there all.held in
+    let short = near_short (meta_kept new).bounds.version c.as_slice.result.now c.as_slice.ensures.fits in
     let usable = not_broken _ _ c.is_broken.ensures c.if-is_broken.false in (
       (
         refl,
@@ -122,6 +87,38 @@ returns-in-Ok-Some-InBuffer g c =
       record {
         after = tt;
         short = subst (λ (b : Bounds). length c.as_slice.result.now ≤ longest_content b.version)
+            (still_bounds s db new all.reads) short;
+        searched = λ honest. searched_content (body_at s db.store) _ key _ _ is
+            (all.searched honest);
+        readable = λ can damaged. cc;
+        memory = λ lacks. absurd (let e = lacks in cc);
+        far = λ lacks. absurd (let e = lacks in cc);
+        only = tt;
+      },
+    )
+
+pub returns-in-Ok-Some-Far : goal.returns-in-Ok-Some-Far
+returns-in-Ok-Some-Far g c =
+    let s = g.S.PageStore in
+    let db = c.args.self.now in
+    let new = c.find.new.self in
+    let key = c.args.key.now in
+    let found = c.in-Ok-Some-Far in
+    let all = found.ensures in
+    let bytes = sym c.as_slice-in-Ok-Some-Far.ensures.value in
+    let there = found.field-0-is ∙ ap Some found.field-0-0-is in
+    let is = ap (content_in new) there ∙ ap Some bytes in
+    let short = found_in new found.field-0 Far there all.held in
+    let usable = not_broken _ _ c.is_broken.ensures c.if-is_broken.false in (
+      (
+        refl,
+        (λ _. tt),
+        fetched_well s db new key (Some c.as_slice-in-Ok-Some-Far.result) all.reads usable
+            (λ honest map h. sym is ∙ all.exact honest map h),
+      ),
+      record {
+        after = tt;
+        short = subst (λ (b : Bounds). length c.as_slice-in-Ok-Some-Far.result.now ≤ longest_content b.version)
             (still_bounds s db new all.reads)
             (subst (λ (l : List ℕ). length l ≤ longest_content (meta_kept new).bounds.version) bytes
             short);
