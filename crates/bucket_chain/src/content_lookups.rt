@@ -15,7 +15,7 @@ ghost use Rattle.bucket_chain.specs.Links.{IsLink, SaysLink};
 ghost use Rattle.bucket_chain.specs.WalkAnswers.{IsWalkAnswer};
 ghost use Rattle.bucket_chain.specs.Walks.{CanLook};
 
-use crate::link::{HEAD, OVERFLOW, next_of, read_link};
+use crate::link::{HEAD, OVERFLOW, lent_link, read_link};
 use arrayvec::ArrayVec;
 use page_io::{Page, PageFault, PageStore, Version};
 use slot_page::{MAX_NEAR, far_at, find, pair_at};
@@ -64,32 +64,6 @@ fn look_in(page: &Page, key: &[u8], room: &mut NearContent) -> Option<FoundConte
     Some(tell_content(page, slot, room))
 }
 
-/// Looks for the key in page `n` of a chain where the store lends that and knows it.
-fn lent_look<S: PageStore>(
-    store: &S,
-    n: u32,
-    kind: u8,
-    key: &[u8],
-    room: &mut NearContent,
-    version: Version,
-) -> Option<PageLook>
-    requires { (kind ≡ 3) ⊎ (kind ≡ 4) }
-    ensures known { IfSome result (λ look. IsKnown (S.state store.now) n) }
-    ensures looked { IfSome result (λ look. (bytes : List ℕ)
-        × IsLink (model_version version) bytes n kind look.next (page_records bytes)
-        × IsLookIn key.now (page_records bytes) room.new.items look.found
-        × (S.honest store.now → SaysLink (model_version version) (body_at S.PageStore store.now) n
-        kind look.next (page_records bytes))) }
-{
-    let lent = store.lend(n)?;
-    if lent.known != Some(version) {
-        return None;
-    }
-    let next = next_of(lent.page, n, kind, version)?;
-    let found = look_in(lent.page, key, room);
-    Some(PageLook { next, found })
-}
-
 /// Looks for the key in page `n` of a chain. It is read into `page` where the store doesn't lend it.
 /// Damaged is answered as by `read_link`.
 fn look<S: PageStore>(
@@ -114,9 +88,10 @@ fn look<S: PageStore>(
         → SaysLink (model_version version) (body_at S.PageStore store.old) n kind next records
         → IsErrOf result Damaged → ⊥ }
 {
-    if let Some(look) = lent_look(store, n, kind, key, room, version) {
+    if let Some((lent, next)) = lent_link(store, n, kind, version) {
+        let found = look_in(lent, key, room);
         store.promote(n);
-        return Ok(look);
+        return Ok(PageLook { next, found });
     }
     let next = read_link(store, n, kind, page, version)?;
     let found = look_in(page, key, room);

@@ -22,7 +22,7 @@ pub const OVERFLOW: u8 = 4;
 
 /// What follows a bucket page in its chain, 0 for none, if it is page `n` and has this kind. An empty
 /// overflow page is no page of a chain.
-pub fn next_of(page: &Page, n: u32, kind: u8, version: Version) -> Option<u32>
+fn next_of(page: &Page, n: u32, kind: u8, version: Version) -> Option<u32>
     requires { IsPageOf (model_version version) page.now.bytes }
     ensures sound { IfSome result
         (λ next. IsLink (model_version version) page.now.bytes n kind next
@@ -113,4 +113,27 @@ pub fn read_link<S: PageStore>(
 {
     read_bucket_page(store, n, page, version)?;
     next_of(page, n, kind, version).ok_or(PageFault::Damaged)
+}
+
+/// Page `n` of a chain and what follows it, 0 for none, where the store lends that page and knows it.
+pub fn lent_link<S: PageStore>(
+    store: &S,
+    n: u32,
+    kind: u8,
+    version: Version,
+) -> Option<(&Page, u32)>
+    requires { (kind ≡ 3) ⊎ (kind ≡ 4) }
+    ensures known { IfSome result (λ lent. (1 ≤ n) × IsKnown (S.state store.now) n) }
+    ensures link { IfSome result (λ lent. IsLink (model_version version) lent.0.now.bytes n kind
+        lent.1 (page_records lent.0.now.bytes)) }
+    ensures says { S.honest store.now
+        → IfSome result (λ lent. SaysLink (model_version version) (body_at S.PageStore store.now)
+        n kind lent.1 (page_records lent.0.now.bytes)) }
+{
+    let lent = store.lend(n)?;
+    if lent.known != Some(version) {
+        return None;
+    }
+    let next = next_of(lent.page, n, kind, version)?;
+    Some((lent.page, next))
 }

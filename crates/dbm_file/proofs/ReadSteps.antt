@@ -104,13 +104,13 @@ no_read s db only = record {
   pass_is = refl;
 }
 
--- with another store, of which pages were read, another page, and the ranks of another
+-- with another store, of which pages were read, another page, and another page of a pass
 abbrev pub after_reads : {S : Type 0} (s : Ghosts S) (db : Database S s) (read : S) (page : Page)
     (ranked : List ℕ) → ReadsOnly s (store_of db) read → Database S s
 after_reads s db read page ranked reads = record db {
   store = read;
   page = page;
-  ranks = ranked;
+  ranked = ranked;
   idle = ap (λ (st : store.StoreState). st.staged) reads.same ∙ db.idle;
   told = ap (λ (st : store.StoreState). st.writable) reads.same ∙ db.told;
 }

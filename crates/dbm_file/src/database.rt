@@ -6,7 +6,7 @@ ghost use Rattle.seg_table.specs.MetaPages.{model_meta};
 
 use crate::pass::Pass;
 use crate::{Fault, Stat};
-use bucket_chain::{FoundContent, NearContent, PageRanks};
+use bucket_chain::{FoundContent, NearContent, RankedPage};
 use content_pages::read_content;
 use linear_hash::find_content;
 use page_cache::CachedPages;
@@ -39,8 +39,8 @@ pub struct Database<S: PageStore> {
     pub(crate) far: Vec<u8>,
     pub(crate) error: Option<Fault>,
     pub(crate) pass: Pass,
-    // Of the head page that a pass looked at last.
-    pub(crate) ranks: PageRanks,
+    // The page that a pass looked at last.
+    pub(crate) ranked: RankedPage,
     pub(crate) writable: bool,
     pub(crate) alloc: Global,
     pub(crate) ghost idle: { (S.state store).staged ≡ [] },

@@ -12,7 +12,7 @@ ghost use Rattle.dbm_file.specs.Pairs.{pair_of};
 use crate::database::{Database, refuse};
 use crate::pass::Pass;
 use crate::{Fault, Pair, StoreMode};
-use bucket_chain::{NearContent, PageRanks};
+use bucket_chain::{NearContent, RankedPage};
 use page_group::{GroupEnd, GroupPages, Loan};
 use page_io::{Page, PageFault, PageStore};
 use seg_table::Meta;
@@ -165,7 +165,7 @@ fn group_over<'a, S: PageStore, L: Loan<S>>(
         far: Vec::new(alloc),
         error: None,
         pass: Pass::NotBegun,
-        ranks: PageRanks::new(),
+        ranked: RankedPage::new(),
         writable: true,
         alloc,
     }

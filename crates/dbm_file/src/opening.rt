@@ -19,7 +19,7 @@ ghost use Rattle.dbm_file.specs.Opened.{pages_kept, device_below, device_opened,
 use crate::database::{Database, Db};
 use crate::pass::Pass;
 use crate::{Fault, OpenHow};
-use bucket_chain::{NearContent, PageRanks};
+use bucket_chain::{NearContent, RankedPage};
 use file_opening::open_file;
 use page_cache::CachedPages;
 use page_io::{Page, PageStore};
@@ -131,7 +131,7 @@ impl<D: SectorDev> Database<CachedPages<Pager<D>>> {
                 far: Vec::new(alloc),
                 error: None,
                 pass: Pass::NotBegun,
-                ranks: PageRanks::new(),
+                ranked: RankedPage::new(),
                 writable: file.writable,
                 alloc,
             }),

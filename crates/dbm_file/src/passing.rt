@@ -45,7 +45,7 @@ impl<S: PageStore> Database<S> {
             return refuse(&mut self.error, Fault::Broken);
         }
         match self.advance(true) {
-            Ok(Some(slot)) => Ok(Some(pair_at(&self.page, slot).0)),
+            Ok(Some(slot)) => Ok(Some(pair_at(self.ranked.page(), slot).0)),
             Ok(None) => Ok(None),
             Err(fault) => Err(fault),
         }
@@ -78,7 +78,7 @@ impl<S: PageStore> Database<S> {
             return refuse(&mut self.error, Fault::NoPass);
         }
         match self.advance(false) {
-            Ok(Some(slot)) => Ok(Some(pair_at(&self.page, slot).0)),
+            Ok(Some(slot)) => Ok(Some(pair_at(self.ranked.page(), slot).0)),
             Ok(None) => Ok(None),
             Err(fault) => Err(fault),
         }
@@ -91,14 +91,14 @@ impl<S: PageStore> Database<S> {
         requires begun { (begins ≡ true) ⊎ (pass_of self.old ≢ NotBegun) }
         ensures step { AtEachHandle self.old (λ h.
             (call : Call) → case_of h call ≡ Passes (pass_from begins self.old)
-            → IsStep self.old self.new h call (slot_reply self.new.page.bytes result)) }
+            → IsStep self.old self.new h call (slot_reply self.new.ranked result)) }
         ensures ahead { IfOk result (λ found. IfSome found (λ slot.
-            IsAheadAt (pass_from begins self.old) self.new.page.bytes slot)) }
+            IsAheadAt (pass_from begins self.old) self.new.ranked slot)) }
         ensures stands { IfOk result (λ found.
-            pass_of self.new ≡ pass_at (pass_from begins self.old) self.new.page.bytes found) }
+            pass_of self.new ≡ pass_at (pass_from begins self.old) self.new.ranked found) }
         ensures passed { S.honest (store_of self.old)
             → IfOk result (IsPassed (body_at S.PageStore (store_of self.old)) (meta_kept self.old)
-            (pass_from begins self.old) self.new.page.bytes) }
+            (pass_from begins self.old) self.new.ranked) }
         ensures keeps { IsCallEnded self.old self.new result }
         ensures only { IsErrAmong result (Fault.Device ∷ Fault.Damaged ∷ []) }
     {
@@ -108,10 +108,10 @@ impl<S: PageStore> Database<S> {
             &self.meta,
             last,
             &mut self.page,
-            &mut self.ranks,
+            &mut self.ranked,
         ) {
             Ok(Some(slot)) => {
-                self.pass.go_behind(pair_at(&self.page, slot).0);
+                self.pass.go_behind(pair_at(self.ranked.page(), slot).0);
                 Ok(Some(slot))
             }
             Ok(None) if begins => {

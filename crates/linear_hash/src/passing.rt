@@ -12,15 +12,16 @@ ghost use Rattle.bucket_chain.specs.Leasts.{pass_behind, IsLeast, IsAheadAt};
 ghost use Rattle.linear_hash.specs.Tables.{ForEachTable};
 ghost use Rattle.linear_hash.specs.Passing.{IsPassed};
 
-use bucket_chain::{PageRanks, least_behind};
+use bucket_chain::{RankedPage, least_behind};
 use lin_addr::hash;
 use page_io::{Page, PageFault, PageStore};
 use seg_table::{Meta, head_of};
 
 /// The slot of the least key behind `last`, in the order of a pass, or of the least of all where
-/// that is `None`; `page` is then its page. It looks in the bucket of `last` and then in those that
-/// follow it, and reads a segment page and all pages of a chain for each. It takes no memory. The
-/// keys of a head page are ranked where `ranks` is of other bytes, and `ranks` is then of that page.
+/// that is `None`; `ranked` is then its page. It looks in the bucket of `last` and then in those that
+/// follow it, into a segment page and all pages of a chain for each, and reads those into `page` that
+/// the store doesn't lend. It takes no memory. The keys of a page are ranked where `ranked` is of
+/// other bytes.
 /// Damaged is answered where one of these pages is none of a segment, or none of a chain of the
 /// file's version; Broken only where the store isn't usable; Device where a read of the device
 /// fails.
@@ -29,7 +30,7 @@ pub fn next_pair<S: PageStore>(
     meta: &Meta,
     last: Option<&[u8]>,
     page: &mut Page,
-    ranks: &mut PageRanks,
+    ranked: &mut RankedPage,
 ) -> Result<Option<usize>, PageFault>
     requires { IsMeta (model_meta meta.now) }
     ensures reads { IsReadingCall S.PageStore store.old store.new result }
@@ -37,25 +38,25 @@ pub fn next_pair<S: PageStore>(
 
     // On any bytes a key is answered that is behind `last`.
     ensures ahead { IfOk result (λ found. IfSome found (λ slot.
-        IsAheadAt (pass_behind (option_copied last.entry)) page.new.bytes slot)) }
+        IsAheadAt (pass_behind (option_copied last.entry)) ranked.new slot)) }
 
     // On any file the buckets were read from that of `last` on, in their order.
     ensures passed { S.honest store.old
         → IfOk result (IsPassed (body_at S.PageStore store.old) (model_meta meta.now)
-        (pass_behind (option_copied last.entry)) page.new.bytes) }
+        (pass_behind (option_copied last.entry)) ranked.new) }
 
     // On pages that say a good placement it is the least of all keys, and Damaged is never
     // answered.
     ensures exact { ForEachTable S.PageStore store.old (model_meta meta.now) (λ p.
         IfOk result (IsLeast (pairs_of p) (pass_behind (option_copied last.entry))
-        page.new.bytes)) }
+        ranked.new)) }
     ensures whole { ForEachTable S.PageStore store.old (model_meta meta.now) (λ p.
         IsErrOf result Damaged → ⊥) }
 {
     let mut bucket = last.map_or(0, |key| meta.shape.bucket(hash(key)));
     loop {
         let head = head_of(store, meta, bucket, page)?;
-        if let Some(slot) = least_behind(store, head, last, page, ranks, meta.version)? {
+        if let Some(slot) = least_behind(store, head, last, page, ranked, meta.version)? {
             return Ok(Some(slot));
         }
         match meta.shape.following(bucket) {

@@ -15,6 +15,7 @@ returns-then-not-is_better-clause-least c pairs least =
 pub returns-clause-least : goal.returns-clause-least
 returns-clause-least c pairs least =
     let at = c.in-Some.ensures.ranked in
-    best_changes pairs _ _ _ _ _ c.in-Some.ensures.least at.key at.has _ _ least
+    rw c.swap.ensures.x_after
+    (best_changes pairs _ _ _ _ _ c.in-Some.ensures.least at.key at.has _ _ least
     c.is_better.ensures.first
-    (better_key _ _ _ _ at.key _ at.has c.is_better.ensures.before) c.if-not-is_better.false
+    (better_key _ _ _ _ at.key _ at.has c.is_better.ensures.before) c.if-not-is_better.false)

@@ -16,32 +16,32 @@ pub loop-slot-init : goal.loop-slot-init
 loop-slot-init c = record { ranked = tt; least = tt }
 
 pub is_behind-requires : goal.is_behind-requires
-is_behind-requires c = ranked_slot _ _ _ c.requires.page c.requires.ranks (omega arith)
+is_behind-requires c = ranked_slot _ _ _ c.ranks-ranks.ensures.page c.ranks-ranks.ensures.ranks (omega arith)
 
 pub is_better-requires : goal.is_better-requires
 is_better-requires c = record {
-  at = ranked_slot _ _ _ c.requires.page c.requires.ranks (omega arith);
+  at = ranked_slot _ _ _ c.ranks-ranks.ensures.page c.ranks-ranks.ensures.ranks (omega arith);
   best = c.loop-slot.invariant.ranked;
 }
 
 pub loop-slot-preserved : goal.loop-slot-preserved
 loop-slot-preserved c =
-    let bytes = c.args.page.now.bytes in
-    let within : c.loop-slot.slot < length c.args.ranks.now = omega arith in
-    let at = ranked_slot bytes c.args.ranks.now c.loop-slot.slot c.requires.page c.requires.ranks
+    let bytes = c.args.page.now in
+    let within : c.loop-slot.slot < length c.ranks-ranks.result.now = omega arith in
+    let at = ranked_slot bytes c.ranks-ranks.result.now c.loop-slot.slot c.ranks-ranks.ensures.page c.ranks-ranks.ensures.ranks
     within in
     let behind = c.is_behind.ensures at.key at.has in
     elim c.if-is_behind.branch [
       | then-is_behind+then-is_better w ↦
           slot_taken bytes _ _ at.has _ _ _ _ behind
-          c.loop-slot.invariant c.requires.page w.if-is_behind.true _
+          c.loop-slot.invariant c.ranks-ranks.ensures.page w.if-is_behind.true _
           w.is_better.ensures.first
           (better_key bytes bytes _ _ at.key _ at.has w.is_better.ensures.before)
           w.if-is_better.true _ at.rank_is w.best-is
       | else-is_behind w ↦ elim w.else-is_behind.branch [
         | else-is_behind-via-then-is_behind+else-is_better v ↦
             slot_left bytes _ _ at.has _ _ _ _ behind
-            c.loop-slot.invariant c.requires.page v.if-is_behind.true _
+            c.loop-slot.invariant c.ranks-ranks.ensures.page v.if-is_behind.true _
             v.is_better.ensures.first
             (better_key bytes bytes _ _ at.key _ at.has v.is_better.ensures.before)
             v.if-is_better.false w.best-is
@@ -56,13 +56,13 @@ returns-clause-ranked c = c.loop-slot.invariant.ranked
 
 pub returns-clause-least : goal.returns-clause-least
 returns-clause-least c =
-    let bytes = c.args.page.now.bytes in
+    let bytes = c.args.page.now in
     subst (λ (pairs : List Pair). IsLeast pairs
     (pass_from c.args.last) bytes (slot_of c.loop-slot.best))
     (take_all c.loop-slot.slot (page_pairs bytes)
     (omega (
       arith,
-      ap length c.requires.ranks,
+      ap length c.ranks-ranks.ensures.ranks,
       length-map (page_records bytes) (λ (r : Record). rank (hash_of r.key)),
       length-map (page_records bytes) record_pair,
     )))

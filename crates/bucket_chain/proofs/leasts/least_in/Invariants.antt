@@ -5,4 +5,4 @@ use Rattle.bucket_chain.proofs.leasts.least_in.Given as goal
 
 abbrev pub invariant-loop-slot : goal.invariant-loop-slot
 invariant-loop-slot l =
-    IsBest (take l.slot (page_pairs l.page.bytes)) (pass_from l.last) l.page.bytes l.best
+    IsBest (take l.slot (page_pairs l.page)) (pass_from l.last) l.page l.best

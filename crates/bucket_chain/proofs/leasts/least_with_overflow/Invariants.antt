@@ -11,12 +11,12 @@ use Rattle.bucket_chain.proofs.leasts.least_with_overflow.Given as goal
 abbrev pub invariant-loop-step : goal.invariant-loop-step
 invariant-loop-step g l = record {
   reads : ReadsOnly g.S.PageStore l.fn.store l.store;
-  ranked : IfSome l.best (IsRankedAt l.page.bytes);
+  ranked : IfSome l.best (IsRankedAt l.ranked);
   so_far : (head : ℕ) (records : List Record)
-      → IsLeast (map record_pair records) (pass_from l.last) l.fn.page.bytes (slot_of l.fn.best)
+      → IsLeast (map record_pair records) (pass_from l.last) l.fn.ranked (slot_of l.fn.best)
       → IsBestSoFar (g.S.PageStore.honest l.fn.store
       × IsHeadRead (model_version l.version)
       (body_at g.S.PageStore l.fn.store) head l.fn.first records)
       (body_at g.S.PageStore l.fn.store) head l.at 4 l._step (pass_from l.last)
-      l.page.bytes (slot_of l.best);
+      l.ranked (slot_of l.best);
 }

@@ -4,8 +4,10 @@ use Rattle.bucket_chain.proofs.LeastKeys.{key_is}
 use Rattle.bucket_chain.proofs.leasts.ranked_at.Goals as goal
 
 pub invariant_of-result : goal.invariant_of-result
-invariant_of-result c = record {
-  is_rank = c.requires.rank_is
-      ∙ ap (λ (key : List ℕ). rank (hash_of key))
-      (sym (key_is _ _ _ c.requires.key _ c.pair_at.ensures c.requires.has));
-}
+invariant_of-result c =
+    let there = rw c.page.ensures at c.pair_at.ensures in
+    record {
+      is_rank = c.requires.rank_is
+          ∙ ap (λ (key : List ℕ). rank (hash_of key))
+          (sym (key_is _ _ _ c.requires.key _ there c.requires.has));
+    }

@@ -86,17 +86,17 @@ returns-in_err-slot-clause-whole g c honest p table damaged =
 read_here : (g : Over) (c : In_ok-slot g) → g.S.PageStore.honest c.args.store.now
     → (answer : Option ℕ) → c.in_ok-slot.field-0 ≡ answer
     → IsBucketRead (body_at g.S.PageStore c.args.store.now) (model_meta c.args.meta.now)
-    c.loop-head.bucket (from_of c.args.last) c.least_behind.new.page.bytes answer
+    c.loop-head.bucket (from_of c.args.last) c.least_behind.new.ranked answer
 read_here g c honest answer is =
     let so_far = c.loop-head.invariant in
     let still = still_honest g.S.PageStore _ _ so_far.reads honest in
     let reads = c.in_ok-head.ensures.reads.only in
     bucket_read _ _ _ (model_meta c.args.meta.now) c.loop-head.bucket c.in_ok-head.head
-    (from_of c.args.last) c.least_behind.new.page.bytes answer so_far.within so_far.to_read
+    (from_of c.args.last) c.least_behind.new.ranked answer so_far.within so_far.to_read
     (same_said g.S.PageStore _ _ so_far.reads honest) (same_said g.S.PageStore _ _ reads still)
     (c.in_ok-head.ensures.entry still)
     (subst (λ (found : Option ℕ). IsLeastRead (body_at g.S.PageStore c.head_of.new.store)
-    c.in_ok-head.head (from_of c.args.last) c.least_behind.new.page.bytes found) is
+    c.in_ok-head.head (from_of c.args.last) c.least_behind.new.ranked found) is
     (c.in_ok-slot.ensures.walked (still_honest g.S.PageStore _ _ reads still)))
 
 -- the least of the keys of the bucket of a table
@@ -106,7 +106,7 @@ least_here : (g : Over) (c : In_ok-slot g) → g.S.PageStore.honest c.args.store
     (g.S.PageStore.state c.args.store.now).end p
     → (answer : Option ℕ) → c.in_ok-slot.field-0 ≡ answer
     → IsLeast (pairs_in (chain_at p c.loop-head.bucket)) (from_of c.args.last)
-    c.least_behind.new.page.bytes answer
+    c.least_behind.new.ranked answer
 least_here g c honest p table answer is =
     let so_far = c.loop-head.invariant in
     let still = still_honest g.S.PageStore _ _ so_far.reads honest in
@@ -114,7 +114,7 @@ least_here g c honest p table answer is =
     let chain = chain_there g.S.PageStore _ _ _ p so_far.reads honest table _ _ _ reads
     so_far.within (c.in_ok-head.ensures.exact still) in
     subst (IsLeast (pairs_in (chain_at p c.loop-head.bucket)) (from_of c.args.last)
-    c.least_behind.new.page.bytes) is
+    c.least_behind.new.ranked) is
     (c.in_ok-slot.ensures.exact (still_honest g.S.PageStore _ _ reads still)
     (chain_at p c.loop-head.bucket) chain)
 
@@ -158,7 +158,7 @@ loop-head-preserved g c =
           (from_of c.args.last) c.loop-head.bucket c.in-Some-following.next so_far.within
           so_far.to_read following.behind;
       passed = λ honest. none_before_next (model_meta c.args.meta.now) c.requires.split_in low
-          (from_of c.args.last) _ c.loop-head.bucket c.least_behind.new.page.bytes so_far.within
+          (from_of c.args.last) _ c.loop-head.bucket c.least_behind.new.ranked so_far.within
           (so_far.passed honest) (read_here g c.before.before.before honest None c.in_default.is)
           c.in-Some-following.next following;
       left = λ honest p table. still_left _ _ _ p table c.args.meta.now.shape.low_level
@@ -171,7 +171,7 @@ pub returns-in-None-clause-passed : goal.returns-in-None-clause-passed
 returns-in-None-clause-passed g c honest =
     none_at_all (model_meta c.args.meta.now) c.requires.split_in
     (at_most c.args.meta.now.shape.low_level) (from_of c.args.last) _ c.loop-head.bucket
-    c.least_behind.new.page.bytes c.loop-head.invariant.within
+    c.least_behind.new.ranked c.loop-head.invariant.within
     (c.loop-head.invariant.passed honest)
     (read_here g c.before.before.before honest None c.in_default.is)
     c.in-None.ensures.last

@@ -37,7 +37,8 @@ returns-in-Ok-Some g c =
     let db = c.args.self.now in
     let usable = not_broken _ _ c.is_broken.ensures c.if-is_broken.false in
     let all = c.in-Ok-Some.ensures in
-    let bytes = c.advance.new.self.page.bytes in
+    let bytes = c.advance.new.self.ranked in
+    let told = rw c.page.ensures at c.pair_at.ensures in
     let ahead = subst (λ (o : Option ℕ). IfSome o (λ slot. IsAheadAt (pass_from true db) bytes slot))
     c.in-Ok-Some.field-0-is all.ahead in (
       (
@@ -47,18 +48,18 @@ returns-in-Ok-Some g c =
             (Ok (Some c.pair_at.result.0))
             (λ honest h at. first_step s db c.advance.new.self _ usable h at (all.step honest h at))
             (ap (λ (o : Option ℕ). slot_reply bytes (Ok o)) c.in-Ok-Some.field-0-is
-            ∙ lent_key bytes c.in-Ok-Some.slot c.pair_at.result c.pair_at.ensures)
+            ∙ lent_key bytes c.in-Ok-Some.slot c.pair_at.result told)
             (keeps_as c.in-Ok-Some.field-0 (Some c.pair_at.result.0) all.keeps)
             (stands_behind _ (pass_from true db) bytes _ c.in-Ok-Some.slot c.pair_at.result
-            all.stands c.in-Ok-Some.field-0-is c.pair_at.ensures),
+            all.stands c.in-Ok-Some.field-0-is told),
       ),
       record {
         after = tt;
         short = short_key bytes c.pair_at.result.0.now c.pair_at.result.1.now
-            c.in-Ok-Some.slot ahead.page ahead.has.0 c.pair_at.ensures;
+            c.in-Ok-Some.slot ahead.page ahead.has.0 told;
         passed =
             (λ honest. given_key _ _ _ bytes _ c.in-Ok-Some.slot c.pair_at.result
-            c.in-Ok-Some.field-0-is c.pair_at.ensures (all.passed honest));
+            c.in-Ok-Some.field-0-is told (all.passed honest));
         only = tt;
       },
     )
@@ -69,7 +70,7 @@ returns-in-Ok-None g c =
     let db = c.args.self.now in
     let usable = not_broken _ _ c.is_broken.ensures c.if-is_broken.false in
     let all = c.in-Ok-None.ensures in
-    let bytes = c.advance.new.self.page.bytes in (
+    let bytes = c.advance.new.self.ranked in (
       (
         refl,
         (λ _. tt),
@@ -97,7 +98,7 @@ returns-in-Err g c =
       (
         refl,
         (λ _. tt),
-        passed_lends s db c.advance.new.self First c.advance.new.self.page.bytes
+        passed_lends s db c.advance.new.self First c.advance.new.self.ranked
             (Err c.in-Err.fault) (Err c.in-Err.fault)
             (λ honest h at. first_step s db c.advance.new.self _ usable h at (all.step honest h at)) refl
             (keeps_err c.in-Err.fault all.keeps) tt,

@@ -74,7 +74,8 @@ returns-in-Ok-Some g c =
     let begun = was_begun (pass_of db) c.is_begun.result c.is_begun.ensures
     c.if-not-is_begun.false in
     let all = c.in-Ok-Some.ensures in
-    let bytes = c.advance.new.self.page.bytes in
+    let bytes = c.advance.new.self.ranked in
+    let told = rw c.page.ensures at c.pair_at.ensures in
     let ahead = subst (λ (o : Option ℕ). IfSome o (λ slot. IsAheadAt (pass_from false db) bytes slot))
     c.in-Ok-Some.field-0-is all.ahead in (
       (
@@ -85,22 +86,22 @@ returns-in-Ok-Some g c =
             (λ honest h at. next_step s db c.advance.new.self _ begun usable
             h at (all.step honest h at))
             (ap (λ (o : Option ℕ). slot_reply bytes (Ok o)) c.in-Ok-Some.field-0-is
-            ∙ lent_key bytes c.in-Ok-Some.slot c.pair_at.result c.pair_at.ensures)
+            ∙ lent_key bytes c.in-Ok-Some.slot c.pair_at.result told)
             (keeps_as c.in-Ok-Some.field-0 (Some c.pair_at.result.0) all.keeps)
             (stands_behind _ (pass_from false db) bytes _ c.in-Ok-Some.slot c.pair_at.result
-            all.stands c.in-Ok-Some.field-0-is c.pair_at.ensures),
+            all.stands c.in-Ok-Some.field-0-is told),
       ),
       record {
         after = tt;
         short = short_key bytes c.pair_at.result.0.now c.pair_at.result.1.now
-            c.in-Ok-Some.slot ahead.page ahead.has.0 c.pair_at.ensures;
+            c.in-Ok-Some.slot ahead.page ahead.has.0 told;
         passed = (
           begun,
           λ honest.
               given_key _ _ _ bytes _ c.in-Ok-Some.slot c.pair_at.result c.in-Ok-Some.field-0-is
-              c.pair_at.ensures (all.passed honest),
+              told (all.passed honest),
         );
-        ahead = key_ahead (pass_of db) bytes c.in-Ok-Some.slot c.pair_at.result c.pair_at.ensures
+        ahead = key_ahead (pass_of db) bytes c.in-Ok-Some.slot c.pair_at.result told
             ahead;
         no_pass = pass_on (Ok (Some c.pair_at.result.0)) _ _ begun (λ is. cc);
         only = tt;
@@ -115,7 +116,7 @@ returns-in-Ok-None g c =
     let begun = was_begun (pass_of db) c.is_begun.result c.is_begun.ensures
     c.if-not-is_begun.false in
     let all = c.in-Ok-None.ensures in
-    let bytes = c.advance.new.self.page.bytes in (
+    let bytes = c.advance.new.self.ranked in (
       (
         refl,
         (λ _. tt),
@@ -151,7 +152,7 @@ returns-in-Err g c =
       (
         refl,
         (λ _. tt),
-        passed_lends s db c.advance.new.self Next c.advance.new.self.page.bytes (Err c.in-Err.fault)
+        passed_lends s db c.advance.new.self Next c.advance.new.self.ranked (Err c.in-Err.fault)
             (Err c.in-Err.fault) (λ honest h at.
             next_step s db c.advance.new.self _ begun usable h at
             (all.step honest h at)) refl (keeps_err c.in-Err.fault all.keeps) tt,

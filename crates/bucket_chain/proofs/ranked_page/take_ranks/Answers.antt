@@ -6,7 +6,7 @@ use Rattle.page_io.specs.BucketPages.{page_records}
 use Rattle.slot_page.proofs.Pages.{counted}
 use Rattle.bucket_chain.specs.KeyRanks.{key_ranks}
 use Rattle.bucket_chain.proofs.KeyRanks.{ranked_more}
-use Rattle.bucket_chain.proofs.page_ranks.take_ranks.Goals as goal
+use Rattle.bucket_chain.proofs.ranked_page.take_ranks.Goals as goal
 
 pub pair_at-requires-clause-within : goal.pair_at-requires-clause-within
 pair_at-requires-clause-within c =

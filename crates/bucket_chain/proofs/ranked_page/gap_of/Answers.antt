@@ -1,6 +1,6 @@
 use Rattle.std.proofs.Common.{arith}
 use Rattle.slot_page.proofs.Pages.{counted}
-use Rattle.bucket_chain.proofs.page_ranks.gap_of.Goals as goal
+use Rattle.bucket_chain.proofs.ranked_page.gap_of.Goals as goal
 
 pub overflow_sub-result : goal.overflow_sub-result
 overflow_sub-result c =

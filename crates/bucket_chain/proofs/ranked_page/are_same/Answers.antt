@@ -1,7 +1,7 @@
 use Rattle.std.proofs.Common.{rules, sym, ◌∙◌}
 use Rattle.std.specs.Cmp.Lexicographic.{same_text}
 use Rattle.bucket_chain.proofs.SamePages.{same_bytes}
-use Rattle.bucket_chain.proofs.page_ranks.are_same.Goals as goal
+use Rattle.bucket_chain.proofs.ranked_page.are_same.Goals as goal
 
 pub returns-then-eq : goal.returns-then-eq
 returns-then-eq c = (

@@ -1,4 +1,4 @@
-//! The ranks of a page's keys.
+//! A page with the ranks of its keys.
 
 ghost use Rattle.std.specs.Prelude.{◌≡◌, ◌↔◌, ◌+◌, ◌*◌, ◌≤◌, IsTrue, length};
 ghost use Rattle.page_model.specs.Reading.{low};
@@ -13,17 +13,17 @@ use slot_page::{empty, pair_at, room};
 use std::marker::Model;
 
 /// The rank of the key in each slot. A page has at most 338 slots.
-pub(crate) type SlotRanks = ArrayVec<u32, 338>;
+type SlotRanks = ArrayVec<u32, 338>;
 
-/// The ranks of the keys of a page, which are kept as long as its bytes stay the same. A contract
-/// sees the bytes of the page.
+/// A page of records with the ranks of its keys, which are kept as long as its bytes stay the same. A
+/// contract sees the bytes of the page.
 #[derive(Drop)]
-pub struct PageRanks {
+pub struct RankedPage {
     page: Page,
     ranks: SlotRanks,
 }
 
-impl Model for PageRanks {
+impl Model for RankedPage {
     ghost use Rattle.std.specs.Prelude.{ℕ, List};
     ghost use Rattle.bucket_chain.specs.KeyRanks.{HasRanks};
 
@@ -35,7 +35,7 @@ impl Model for PageRanks {
 }
 
 /// Takes the rank of each of the page's keys, in place of those that were there.
-pub(crate) fn take_ranks(ranks: &mut SlotRanks, page: &Page)
+fn take_ranks(ranks: &mut SlotRanks, page: &Page)
     requires { IsBucketPage page.now.bytes }
     ensures { ranks.new.items ≡ key_ranks page.now.bytes }
 {
@@ -68,19 +68,19 @@ fn are_same(page: &Page, other: &Page) -> bool
     page.bytes[..from] == other.bytes[..from] && page.bytes[to..] == other.bytes[to..]
 }
 
-impl PageRanks {
-    /// Those of a page of no records.
-    pub fn new() -> PageRanks
+impl RankedPage {
+    /// A page of no records.
+    pub fn new() -> RankedPage
         ensures { IsBucketPage result }
     {
-        PageRanks {
+        RankedPage {
             page: empty(0, HEAD, 0),
             ranks: ArrayVec::new(),
         }
     }
 
-    /// Has the ranks of this page's keys from now on. They are taken where its bytes aren't those
-    /// of the page before.
+    /// Is this page from now on. The ranks of its keys are taken where its bytes aren't those of the
+    /// page before.
     pub(crate) fn set_page(&mut self, page: &Page)
         requires { IsBucketPage page.now.bytes }
         ensures { self.new ≡ page.now.bytes }
@@ -92,9 +92,17 @@ impl PageRanks {
         self.page = *page;
     }
 
+    /// The page.
+    pub fn page(&self) -> &Page
+        ensures { result.now.bytes ≡ self.now }
+    {
+        &self.page
+    }
+
     /// The rank of the key in each slot.
     pub(crate) fn ranks(&self) -> &[u32]
-        ensures { result.now ≡ key_ranks self.now }
+        ensures page { IsBucketPage self.now }
+        ensures ranks { result.now ≡ key_ranks self.now }
     {
         self.ranks.as_slice()
     }
