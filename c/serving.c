@@ -32,10 +32,10 @@ enum { MOVED = 32 };
 /* what ndbm_c_listed answers */
 enum { WRITE = 1, SYNC = 2 };
 
-/* adjacent sectors that one call writes */
+/* adjacent sectors that one call writes, and room behind them for one more */
 struct run {
     uint32_t first, count;
-    unsigned char bytes[MOVED * SECTOR];
+    unsigned char bytes[(MOVED + 1) * SECTOR];
 };
 
 /* errno for a fault. For one of the device it is the system's own number; where there is none, the device had no memory to list
@@ -134,14 +134,22 @@ static int write_run(int fd, struct run *run) {
     return 0;
 }
 
-/* Puts a sector into a run, which is written first where it has no place for it: 0, or the system's number. */
-static int put_in_run(int fd, struct run *run, uint32_t sector, const unsigned char *content) {
+/* the room behind a run */
+static unsigned char *behind(struct run *run) {
+    return run->bytes + (size_t)SECTOR * run->count;
+}
+
+/* Takes the sector whose bytes are behind a run into it. The run is written first where it has no place for it, and begins with
+ * that sector then: 0, or the system's number. */
+static int put_in_run(int fd, struct run *run, uint32_t sector) {
     if (run->count == MOVED || sector != run->first + run->count) {
+        const unsigned char *content = behind(run);
         int error = write_run(fd, run);
         if (error) return error;
         run->first = sector;
+        memmove(run->bytes, content, SECTOR);
     }
-    memcpy(run->bytes + (size_t)SECTOR * run->count++, content, SECTOR);
+    run->count++;
     return 0;
 }
 
@@ -159,14 +167,13 @@ static int sync_run(int fd, struct run *run) {
  * left out, since it settles nothing more. */
 static int carry_out(struct served *it) {
     struct run run;
-    unsigned char content[SECTOR];
     uint32_t sector = 0;
     int32_t change, last = 0;
     int error = 0;
     size_t i = 0;
     run.first = run.count = 0;
-    for (; !error && (change = ndbm_c_listed(&it->handle, i, &sector, content)) > 0; i++) {
-        if (change == WRITE) error = put_in_run(it->fd, &run, sector, content);
+    for (; !error && (change = ndbm_c_listed(&it->handle, i, &sector, behind(&run))) > 0; i++) {
+        if (change == WRITE) error = put_in_run(it->fd, &run, sector);
         if (change == SYNC && last != SYNC) error = sync_run(it->fd, &run);
         last = change;
     }

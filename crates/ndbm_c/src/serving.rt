@@ -1,7 +1,7 @@
 // Serving the device of a handle.
-ghost use Rattle.std.specs.Prelude.{◌≡◌};
+ghost use Rattle.std.specs.Prelude.{◌≡◌, option_copied};
 ghost use Rattle.ndbm_c.specs.Held.{OnHandle};
-ghost use Rattle.ndbm_c.specs.Serving.{IsTrueIn, TellsLack, TellsChange, IsServed};
+ghost use Rattle.ndbm_c.specs.Serving.{IsTrueIn, TellsLack, IsNumberOf, TellsChange, IsServed};
 ghost use Rattle.sect_dev.specs.declared.served.Told.TheVariants.{Sector, CarriedOut};
 
 use crate::handle::Handle;
@@ -73,6 +73,21 @@ fn tell(alloc: Global, handle: &mut Handle, told: &Told) -> i32
     }
 }
 
+/// A change that is listed: 1 for a write of these bytes to the sector, 2 for a sync, 0 for none.
+fn tell_change(change: Option<&Event>, sector: &mut u32, bytes: &mut [u8; 512]) -> i32
+    ensures { IsNumberOf (option_copied change.entry) result sector.new bytes.new }
+{
+    match change {
+        Some(Event::Wrote(n, content)) => {
+            *sector = *n;
+            *bytes = *content;
+            1
+        }
+        Some(Event::Synced) => 2,
+        None => 0,
+    }
+}
+
 /// Change i of those that are listed, from 0 on and the oldest first: 0 where there are no more, 1 for
 /// a write of these bytes to the sector, 2 for a sync.
 #[unsafe(no_mangle)]
@@ -89,18 +104,10 @@ pub extern "C" fn ndbm_c_listed(
     let Some(held) = handle.take(alloc) else {
         return 0;
     };
-    let change = match held.dev() {
-        Some(dev) => dev.listed().get(i).copied(),
-        None => None,
+    let told = match held.dev() {
+        Some(dev) => tell_change(dev.listed().get(i), sector, bytes),
+        None => 0,
     };
     handle.put(held);
-    match change {
-        Some(Event::Wrote(n, content)) => {
-            *sector = n;
-            *bytes = content;
-            1
-        }
-        Some(Event::Synced) => 2,
-        None => 0,
-    }
+    told
 }
