@@ -11,7 +11,7 @@
 
 #include "parts.h"
 
-enum { LIMIT = 1000000, GROUP_PAIRS = 8192, GROUP_BYTES = 1 << 20, FAR_SHARE = 4 };
+enum { LIMIT = 1000000, MOST_PAGES = 65536, GROUP_PAIRS = 8192, GROUP_BYTES = 1 << 20, FAR_SHARE = 4 };
 
 /* The room for a content is the last part. It is written no further than the longest content that was given, so that the system
  * need not have memory for the rest of it. */
@@ -60,18 +60,25 @@ static int open_database(DBM *db, const char *file, int flags, mode_t mode, cons
                         .exclusive = flags & O_EXCL,
                         .truncate = flags & O_TRUNC,
                         .first_version = how->options & DBMX_VERSION_1,
-                        .limit = how->limit ? how->limit : LIMIT};
+                        .limit = how->limit ? how->limit : LIMIT,
+                        .kept_pages = how->options & DBMX_PAGES ? how->pages : 0};
     db->writable = asked.writable;
     return ndbm_served_open(&db->served, fd, &asked);
 }
 
+/* whether the options are known, and so many pages may be kept */
+static bool is_how(const dbmx_how *how) {
+    if (how->options & ~(DBMX_UNLOCKED | DBMX_VERSION_1 | DBMX_PAGES)) return false;
+    return !(how->options & DBMX_PAGES) || (how->pages && how->pages <= MOST_PAGES);
+}
+
 static DBM *opened(const char *file, int flags, mode_t mode, const dbmx_how *how, int *fault) {
-    static const dbmx_how plain = {0, 0, 0};
+    static const dbmx_how plain = {0, 0, 0, 0};
     static const int known = O_ACCMODE | O_CREAT | O_EXCL | O_TRUNC | O_APPEND | O_CLOEXEC | O_LARGEFILE | O_NOFOLLOW | O_SYNC |
                              O_DSYNC | O_NONBLOCK | O_NOCTTY | O_NOATIME;
     if (!how) how = &plain;
     *fault = 0;
-    if (!file || (flags & ~known) || (flags & O_ACCMODE) == O_ACCMODE || (how->options & ~(DBMX_UNLOCKED | DBMX_VERSION_1))) {
+    if (!file || (flags & ~known) || (flags & O_ACCMODE) == O_ACCMODE || !is_how(how)) {
         misuse();
         return NULL;
     }

@@ -66,6 +66,8 @@ int dbm_rdonly(DBM *db);
 #define DBMX_UNLOCKED 1u
 /* an option of dbmx_how: a database that is made or emptied is of version 1, and else of version 2 */
 #define DBMX_VERSION_1 2u
+/* an option of dbmx_how: its member pages is looked at, which programs that were compiled over older versions of this file lack */
+#define DBMX_PAGES 4u
 
 /* how a database is opened; all members 0: as dbm_open does */
 typedef struct {
@@ -73,8 +75,10 @@ typedef struct {
     unsigned limit;
     /* for so many seconds the opening is tried again where another program has the file open */
     unsigned wait;
-    /* 0, or of DBMX_UNLOCKED and DBMX_VERSION_1 those that are wanted */
+    /* 0, or of DBMX_UNLOCKED, DBMX_VERSION_1 and DBMX_PAGES those that are wanted */
     unsigned options;
+    /* with DBMX_PAGES: how many pages of the file, of 2048 bytes each, are kept in memory at most, 1 to 65536; without: 16384 */
+    unsigned pages;
 } dbmx_how;
 
 typedef struct {

@@ -26,6 +26,8 @@ struct how {
     /* a database that is made or emptied is of version 1, and else of version 2 */
     bool first_version;
     uint32_t limit;
+    /* how many pages are kept in memory at most, 0 for as many as are kept where nobody asks */
+    uint32_t kept_pages;
 };
 
 /* how many bytes there have to be where an export gives a key, and where it gives a content */

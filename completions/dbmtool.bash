@@ -28,16 +28,16 @@ _dbmtool() {
   while [ "$COMP_CWORD" -gt 1 ]; do
     case ${COMP_WORDS[1]} in
       --verbose) own=1 ;;
-      --wait) own=2; [ "${COMP_WORDS[2]}" != = ] || own=3 ;;
+      --wait | --cache) own=2; [ "${COMP_WORDS[2]}" != = ] || own=3 ;;
       *) break ;;
     esac
-    # the seconds are a number
+    # what they take is a number
     [ "$COMP_CWORD" -gt "$own" ] || return
     COMP_WORDS=("${COMP_WORDS[0]}" "${COMP_WORDS[@]:own + 1}")
     COMP_CWORD=$((COMP_CWORD - own))
   done
   if [ "$COMP_CWORD" = 1 ]; then
-    mapfile -t COMPREPLY < <(compgen -W "$commands --verbose --wait -h --help -V --version" -- "$word")
+    mapfile -t COMPREPLY < <(compgen -W "$commands --cache --verbose --wait -h --help -V --version" -- "$word")
     return
   fi
   case ${COMP_WORDS[COMP_CWORD - 1]} in

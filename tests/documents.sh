@@ -68,6 +68,7 @@ agrees "bash's names behind an option" "$(offered dbmtool create --limit 7 m)" m
 agrees "bash's names for a number" "$(offered dbmtool create --limit '')" ''
 agrees "bash's names behind --verbose" "$(offered dbmtool --verbose fetch '')" 'mail tables'
 agrees "bash's names behind --wait" "$(offered dbmtool --wait 7 --verbose fetch '')" 'mail tables'
+agrees "bash's names behind --cache" "$(offered dbmtool --cache 7 --wait 7 fetch '')" 'mail tables'
 agrees "bash's names behind --wait=" "$(offered dbmtool --verbose --wait = 7 fetch '')" 'mail tables'
 agrees "bash's names for seconds" "$(offered dbmtool --wait '')" ''
 agrees "bash's commands behind --wait" "$(offered dbmtool --wait 7 fet)" fetch

@@ -27,11 +27,15 @@ static void missing(void) {
 }
 
 static void misuse(void) {
-    dbmx_how how = {.options = DBMX_VERSION_1 << 1};
+    dbmx_how how = {.options = DBMX_PAGES << 1};
     FAILS(EINVAL, !dbm_open(NULL, O_RDWR | O_CREAT, 0644));
     REFUSED(EINVAL, 0, NULL, O_RDWR | O_CREAT, NULL);
     REFUSED(EINVAL, 0, "none", O_RDWR | O_CREAT, &how);
     how.options = ~0u;
+    REFUSED(EINVAL, 0, "none", O_RDWR | O_CREAT, &how);
+    how = (dbmx_how){.options = DBMX_PAGES};
+    REFUSED(EINVAL, 0, "none", O_RDWR | O_CREAT, &how);
+    how.pages = 65537;
     REFUSED(EINVAL, 0, "none", O_RDWR | O_CREAT, &how);
     REFUSED(EINVAL, 0, "none", O_WRONLY | O_RDWR | O_CREAT, NULL);
     static const int others[] = {O_DIRECTORY, O_DIRECT, O_PATH, O_TMPFILE, O_ASYNC, 1 << 30};

@@ -6,6 +6,7 @@ use Rattle.clap.specs.Words.{Row, Text, first_of, matches_of, one_of, subcommand
 use Rattle.dbm_command_line.specs.CommandLine.{command_line}
 use Rattle.dbm_command_line.specs.declared.plan.Plan.{Plan}
 use Rattle.dbm_command_line.specs.declared.plan.Plan.TheVariants.{Create, Store, Insert, Fetch, Delete, List as ListKeys, Dump, Load, Replace, Resize, Backup, Salvage, Stat, Verify, Upgrade, Script, ReadScript, Rehearse, Faults}
+use Rattle.dbm_command_line.specs.declared.plan.Request.{Request}
 use Rattle.dbm_command_line.specs.declared.plan.Source.{Source}
 use Rattle.dbm_command_line.specs.declared.plan.Source.TheVariants.{File, Memory}
 use Rattle.dbm_command_line.specs.declared.plan.Spelling.{Spelling}
@@ -33,11 +34,11 @@ abbrev pub IsGroup : List Row → ℕ → Type 0
 IsGroup rows group =
     IsNumberText rows (codes "group") group × (1 ≤ group) × (group ≤ 100000)
 
--- the number under `wait`, up to 86400, or no text
-abbrev pub IsWait : List Row → Option ℕ → Type 0
-IsWait rows None = first_of (codes "wait") rows ≡ None
-IsWait rows (Some seconds) =
-    IsNumberText rows (codes "wait") seconds × (seconds ≤ 86400)
+-- a number under the id, from the least to the most, or no text
+abbrev pub IsWithin : List Row → Text → ℕ → ℕ → Option ℕ → Type 0
+IsWithin rows id least most None = first_of id rows ≡ None
+IsWithin rows id least most (Some number) =
+    IsNumberText rows id number × (least ≤ number) × (number ≤ most)
 
 abbrev pub flag_text : Spelling → Text
 flag_text spelling.Text = codes "false"
@@ -165,9 +166,16 @@ IsVerbose rows verbose = one_of (codes "verbose") rows ≡ Some (flag_entry verb
 abbrev pub AreVerbose : List Text → Bool → Type 0
 AreVerbose words verbose = IsVerbose (matches_of command_line words) verbose
 
--- the words enter how long to wait, or nothing
-abbrev pub AreToWait : List Text → Option ℕ → Type 0
-AreToWait words wait = IsWait (matches_of command_line words) wait
+-- what was entered in front of the command: whether faults are told in words, how many seconds to
+-- wait, and how many pages to keep
+pub record AreOptions (rows : List Row) (request : Request) : Type 0 where
+  pub verbose : IsVerbose rows request.verbose
+  pub wait : IsWithin rows (codes "wait") 0 86400 request.wait
+  pub cache : IsWithin rows (codes "cache") 1 65536 request.cache
+
+-- the words enter these
+abbrev pub AreAsked : List Text → Request → Type 0
+AreAsked words request = AreOptions (matches_of command_line words) request
 
 -- the parser takes the words: they are no mistake, and don't ask for help
 abbrev pub AreTaken : List Text → Type 0

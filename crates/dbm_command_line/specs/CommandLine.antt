@@ -75,6 +75,13 @@ wait_rule = record (number_rule (codes "wait")) {
       Some (parser.Signed (pos 0) (pos 86400));
 }
 
+-- `--cache PAGES`, from 1 to 65536
+abbrev pub cache_rule : Rule
+cache_rule = record (number_rule (codes "cache")) {
+  parser =
+      Some (parser.Signed (pos 1) (pos 65536));
+}
+
 -- `--verbose`
 abbrev pub verbose_rule : Rule
 verbose_rule = record (new_rule (codes "verbose")) {
@@ -140,9 +147,10 @@ rehearse_line = line (codes "rehearse")
 abbrev pub faults_line : Shape
 faults_line = line (codes "faults") []
 
--- `dbmtool [--verbose] [--wait SECONDS] [--version]`, whose name is none of the words that are read
+-- `dbmtool [--verbose] [--wait SECONDS] [--cache PAGES] [--version]`, whose name is none of the words
+-- that are read
 abbrev pub program_line : Shape
-program_line = record (line (codes "dbmtool") (verbose_rule ∷ wait_rule ∷ [])) {
+program_line = record (line (codes "dbmtool") (verbose_rule ∷ wait_rule ∷ cache_rule ∷ [])) {
   has_version = true;
   no_binary_name = true;
   subcommand_required = true;

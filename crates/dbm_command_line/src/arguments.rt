@@ -1,9 +1,10 @@
 // The words and options that commands take.
 ghost use Rattle.dbm_command_line.specs.Building.{IsRule};
-ghost use Rattle.dbm_command_line.specs.CommandLine.{group_rule, hexadecimal_rule, number_rule, read_rule, replace_rule, stops_rule, text_rule, verbose_rule, version_rule, wait_rule, word_rule};
+ghost use Rattle.dbm_command_line.specs.CommandLine.{cache_rule, group_rule, hexadecimal_rule, number_rule, read_rule, replace_rule, stops_rule, text_rule, verbose_rule, version_rule, wait_rule, word_rule};
 
 use crate::names::{
-    GROUP, HEXADECIMAL, LONGEST_WAIT, MOST_LINES, READ, REPLACE, STOPS, TEXT, V2, VERBOSE, WAIT,
+    CACHE, GROUP, HEXADECIMAL, LONGEST_WAIT, MOST_KEPT, MOST_LINES, READ, REPLACE, STOPS, TEXT, V2,
+    VERBOSE, WAIT,
 };
 use clap::{Arg, ArgAction, value_parser};
 use std::alloc::Global;
@@ -129,4 +130,15 @@ pub fn wait<'a>(alloc: Global) -> Arg<'a>
         .value_name("SECONDS")
         .value_parser(value_parser!(u32).range(0..=i64::from(LONGEST_WAIT)))
         .help("Where another program has the file open, try again for so many seconds (0 to 86400)")
+}
+
+/// The option `--cache`, in front of the command, whose value is from 1 to `MOST_KEPT`.
+pub fn cache<'a>(alloc: Global) -> Arg<'a>
+    ensures { IsRule result cache_rule }
+{
+    Arg::new(alloc, CACHE)
+        .long(CACHE)
+        .value_name("PAGES")
+        .value_parser(value_parser!(u32).range(1..=i64::from(MOST_KEPT)))
+        .help("Keep up to so many pages of the file in memory, of 2 KB each (1 to 65536, else 256)")
 }

@@ -4,8 +4,8 @@ ghost use Rattle.dbm_command_line.specs.Building.{Adds, IsApp, alone};
 ghost use Rattle.dbm_command_line.specs.CommandLine.{backup_line, command_line, create_line, faults_line, file_line, key_line, load_line, pair_line, pairs_line, program_line, rehearse_line, resize_line, script_line};
 
 use crate::arguments::{
-    for_reading, group, hexadecimal, number, replace, stops, text_form, verbose, version, wait,
-    word,
+    cache, for_reading, group, hexadecimal, number, replace, stops, text_form, verbose, version,
+    wait, word,
 };
 use crate::help_text::fault_table;
 use crate::names::{
@@ -92,7 +92,8 @@ fn program<'a>(alloc: Global) -> Result<Command<'a>, AllocError>
         .after_help(fault_table())
         .bin_name(NAME)?
         .arg(verbose(alloc))?
-        .arg(wait(alloc))
+        .arg(wait(alloc))?
+        .arg(cache(alloc))
 }
 
 fn create_command<'a>(alloc: Global) -> Result<Command<'a>, AllocError>

@@ -69,8 +69,13 @@ pub const VERBOSE: &str = "verbose";
 
 pub const WAIT: &str = "wait";
 
+pub const CACHE: &str = "cache";
+
 /// The most lines of a load that may share a commit.
 pub const MOST_LINES: u32 = 100_000;
 
 /// The most seconds to wait for a file: a day.
 pub const LONGEST_WAIT: u32 = 86_400;
+
+/// The most pages of a file that may be kept in memory: 128 MB.
+pub const MOST_KEPT: u32 = 65_536;

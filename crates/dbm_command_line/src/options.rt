@@ -1,14 +1,14 @@
 // The plan that a parse entered.
 ghost use Rattle.std.specs.Prelude.{◌≡◌, ◌⊎◌, IfErr, IfOk, IfSome, MatchOption, None, Some, codes};
 ghost use Rattle.clap.specs.Words.{first_of, found_of, one_of, rows_of, subcommand_rows_of};
-ghost use Rattle.dbm_command_line.specs.Asking.{Asks, IsForReading, IsForm, IsGroup, IsNumberText, IsOptional, IsReplacing, IsSource, IsText, IsVerbose, IsVersion, IsWait, LacksFile, LacksMemory, LacksReplace, LacksSource, Names, NamesNoFile, NamesNoMemory, NamesNoReplace, NamesNoSource, flag_text};
+ghost use Rattle.dbm_command_line.specs.Asking.{AreOptions, Asks, IsForReading, IsForm, IsGroup, IsNumberText, IsOptional, IsReplacing, IsSource, IsText, IsVerbose, IsVersion, IsWithin, LacksFile, LacksMemory, LacksReplace, LacksSource, Names, NamesNoFile, NamesNoMemory, NamesNoReplace, NamesNoSource, flag_text};
 ghost use Rattle.dbm_command_line.specs.Sorting.{IsOfChoice};
 
 use crate::WordsError;
 use crate::names::{
-    BACKUP, CONTENT, CREATE, DELETE, DUMP, FAULTS, FETCH, FILE, GROUP, HEXADECIMAL, INSERT, KEY,
-    LIMIT, LIST, LOAD, LONGEST_WAIT, MEMORY, MOST_LINES, READ, REHEARSE, REPLACE, RESIZE, SALVAGE,
-    SCRIPT, STAT, STOPS, STORE, TEXT, TO, UPGRADE, V2, VERBOSE, VERIFY, WAIT,
+    BACKUP, CACHE, CONTENT, CREATE, DELETE, DUMP, FAULTS, FETCH, FILE, GROUP, HEXADECIMAL, INSERT,
+    KEY, LIMIT, LIST, LOAD, LONGEST_WAIT, MEMORY, MOST_KEPT, MOST_LINES, READ, REHEARSE, REPLACE,
+    RESIZE, SALVAGE, SCRIPT, STAT, STOPS, STORE, TEXT, TO, UPGRADE, V2, VERBOSE, VERIFY, WAIT,
 };
 use crate::plan::{Plan, Request, Source, Spelling, Version};
 use clap::ArgMatches;
@@ -16,8 +16,7 @@ use clap::ArgMatches;
 /// What the words ask for.
 pub fn read_request<'a>(matches: &ArgMatches<'a>) -> Result<Request<'a>, WordsError>
     ensures plan { IfOk result (λ r. Names (subcommand_rows_of matches.now) r.plan) }
-    ensures verbose { IfOk result (λ r. IsVerbose (rows_of (found_of matches.now)) r.verbose) }
-    ensures wait { IfOk result (λ r. IsWait (rows_of (found_of matches.now)) r.wait) }
+    ensures options { IfOk result (AreOptions (rows_of (found_of matches.now))) }
     ensures source { IfErr result (λ e. e ≡ WordsError.ScriptSource
         → NamesNoSource (codes "script") (subcommand_rows_of matches.now)) }
     ensures device { IfErr result (λ e. e ≡ WordsError.RehearsalSource
@@ -32,27 +31,29 @@ pub fn read_request<'a>(matches: &ArgMatches<'a>) -> Result<Request<'a>, WordsEr
 {
     let plan = chosen(matches)?;
     let verbose = verbose(matches).ok_or(WordsError::NoPlan)?;
-    let wait = wait(matches).ok_or(WordsError::NoPlan)?;
+    let wait = within(matches, WAIT, 0, LONGEST_WAIT).ok_or(WordsError::NoPlan)?;
+    let cache = within(matches, CACHE, 1, MOST_KEPT).ok_or(WordsError::NoPlan)?;
     Ok(Request {
         plan,
         verbose,
         wait,
+        cache,
     })
 }
 
-/// How many seconds to wait for a file, if that was given. None where it is no number of up to
-/// `LONGEST_WAIT`, as the parser has refused before.
-fn wait(options: &ArgMatches<'_>) -> Option<Option<u32>>
-    ensures { IfSome result (IsWait (rows_of (found_of options.now))) }
+/// The number that was given under `id`, if one was. None where it is none from `least` to `most`,
+/// as the parser has refused before.
+fn within(options: &ArgMatches<'_>, id: &str, least: u32, most: u32) -> Option<Option<u32>>
+    ensures { IfSome result (IsWithin (rows_of (found_of options.now)) id.now least most) }
 {
-    if text(options, WAIT).is_none() {
+    if text(options, id).is_none() {
         return Some(None);
     }
-    let seconds = number(options, WAIT)?;
-    if LONGEST_WAIT < seconds {
+    let number = number(options, id)?;
+    if number < least || most < number {
         return None;
     }
-    Some(Some(seconds))
+    Some(Some(number))
 }
 
 /// Whether a fault is to be told in words.

@@ -9,6 +9,9 @@ pub struct Request<'a> {
     /// How many seconds to wait for a file that another program has locked, where that was asked
     /// for.
     pub wait: Option<u32>,
+    /// How many pages of a file are kept in memory at most, from 1 to 65536, where that was asked
+    /// for.
+    pub cache: Option<u32>,
 }
 
 /// What the words ask for. Each `file` is a name without `.db`, and each `key` and `content` is the

@@ -1,7 +1,7 @@
 // The words after the program's name.
 ghost use Rattle.std.specs.Prelude.{◌≡◌, ◌≢◌, ◌⊎◌, IfErr, IfOk, map, codes};
 ghost use Rattle.clap.specs.Words.{kind_of};
-ghost use Rattle.dbm_command_line.specs.Asking.{AreTaken, AreToWait, AreVerbose, IsPlan, IsWithoutFile, IsWithoutMemory, IsWithoutReplace, IsWithoutSource};
+ghost use Rattle.dbm_command_line.specs.Asking.{AreAsked, AreTaken, IsPlan, IsWithoutFile, IsWithoutMemory, IsWithoutReplace, IsWithoutSource};
 ghost use Rattle.dbm_command_line.specs.Sorting.{IsOfChoice, IsSorted};
 
 use crate::commands::command;
@@ -46,16 +46,15 @@ pub enum WordsError {
 
 /// Reads the words after the program's name. `Help` where they ask for help or the version, and
 /// `Usage` where they are no plan: no command, an unknown one, an option too many or too few, a
-/// number that is no `u32`, a group outside 1 to 100000, or a wait of more than 86400 seconds.
+/// number that is no `u32`, a group outside 1 to 100000, a wait of more than 86400 seconds, or a
+/// cache outside 1 to 65536 pages.
 /// `ScriptSource` where the parser takes the words, and a script has both of FILE and `--memory` or
 /// neither; `RehearsalSource` where a rehearsal does; `VersionSource` where either has FILE, no
 /// `--memory`, and `--v2`; `ReadSource` where a script has `--memory`, no FILE, and `--read`;
 /// `LoadLimit` where a load has `--limit`, and not `--replace`.
 pub fn read_words<'a>(alloc: Global, words: &'a [&'a str]) -> Result<Request<'a>, WordsError>
     ensures plan { IfOk result (λ r. IsPlan (map (λ word. word.now) words.now) r.plan) }
-    ensures verbose { IfOk result
-        (λ r. AreVerbose (map (λ word. word.now) words.now) r.verbose) }
-    ensures wait { IfOk result (λ r. AreToWait (map (λ word. word.now) words.now) r.wait) }
+    ensures options { IfOk result (AreAsked (map (λ word. word.now) words.now)) }
     ensures sorted { IfErr result IsSorted }
     ensures source { IfErr result (λ e. e ≡ WordsError.ScriptSource
         → IsWithoutSource (codes "script") (map (λ word. word.now) words.now)) }

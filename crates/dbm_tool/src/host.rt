@@ -30,6 +30,8 @@ pub struct Host<'a, T> {
     pub alloc: Global,
     /// How many seconds to wait for a file that another program has open.
     pub wait: u32,
+    /// How many pages of a file are kept in memory at most, where that was asked for.
+    pub kept_pages: Option<u32>,
     /// The system's error at the last call on a database's file that failed, if one has.
     pub cause: Option<io::Error>,
     /// The first line of a load that was not stored, where the database refused to.
@@ -42,11 +44,12 @@ pub struct Host<'a, T> {
 
 impl<'a, T> Host<'a, T> {
     /// Nothing was told yet.
-    pub fn new(rt: &'a T, alloc: Global, wait: u32) -> Host<'a, T> {
+    pub fn new(rt: &'a T, alloc: Global, wait: u32, kept_pages: Option<u32>) -> Host<'a, T> {
         Host {
             rt,
             alloc,
             wait,
+            kept_pages,
             cause: None,
             line: None,
             bad_line: None,
@@ -55,16 +58,17 @@ impl<'a, T> Host<'a, T> {
     }
 }
 
-/// Opens a database, and waits for nothing.
+/// Opens a database of which so many pages are kept in memory, and waits for nothing.
 fn open_once<T: Files<File = File>>(
     rt: &T,
     alloc: Global,
     file: &str,
     how: OpenHow,
+    kept_pages: Option<u32>,
 ) -> Result<Db<FileDev>, Refusal>
     ensures { IsOpening ⟦<FileDev as SectorDev>⟧ how result }
 {
-    open_named(rt, alloc, file, how)
+    open_named(rt, alloc, file, OpenHow { kept_pages, ..how })
 }
 
 impl<T: Files<File = File> + Clock> Host<'_, T> {
@@ -89,7 +93,8 @@ impl<T: Files<File = File> + Clock> Host<'_, T> {
         )
     }
 
-    /// Opens a database, and waits for its file where another program has it open.
+    /// Opens a database, and waits for its file where another program has it open. It keeps as many
+    /// pages as this one says, whatever `how` has.
     pub fn open(&mut self, file: &str, how: OpenHow) -> Result<Db<FileDev>, Fault>
         ensures opens { IfOk result (OpensFile how) }
         ensures fresh { IfOk result (IsNewlyOpened (writes how.access) 68250498) }
@@ -97,7 +102,8 @@ impl<T: Files<File = File> + Clock> Host<'_, T> {
     {
         let rt = self.rt;
         let alloc = self.alloc;
-        match open_waiting(rt, self.wait, || open_once(rt, alloc, file, how)) {
+        let kept = self.kept_pages;
+        match open_waiting(rt, self.wait, || open_once(rt, alloc, file, how, kept)) {
             Ok(db) => Ok(db),
             Err(refusal) => Err(self.keep_cause(refusal)),
         }

@@ -129,7 +129,7 @@ pub fn tool<
     match read_words(alloc, words) {
         Ok(request) => {
             let wait = request.wait.unwrap_or(environment.wait);
-            let mut host = Host::new(rt, alloc, wait);
+            let mut host = Host::new(rt, alloc, wait, request.cache);
             let done = carry_out(&mut host, request.plan, input, output, troubles, progress);
             progress.clear();
             if is_unread(done, output.first_error()) {

@@ -1,5 +1,5 @@
 -- A device over a file that C serves, and the database on it.
-use Rattle.std.specs.Prelude.{◌≡◌, ◌≢◌, ◌⊎◌, ◌/◌, ℤ, pos, true, false, if◌then◌else◌, [], Option, Some, None}
+use Rattle.std.specs.Prelude.{◌≡◌, ◌≢◌, ◌⊎◌, ◌/◌, nat_eq, ℤ, pos, true, false, if◌then◌else◌, [], Option, Some, None}
 use Rattle.dbm_model.specs.Bounds.{Bounds}
 use Rattle.sect_dev.specs.Device.{IsStable, LeavesOnly, MoreFaults}
 use Rattle.sect_dev.specs.Moments.{IsOutcome}
@@ -37,7 +37,7 @@ how_of how = record {
   truncate = how.truncate;
   limit = how.limit;
   version = if how.first_version then V1 else V2;
-  kept_pages = Some 16384;
+  kept_pages = Some (if nat_eq how.kept_pages 0 then 16384 else how.kept_pages);
 }
 
 -- it holds a device of the file's size, to which happened what happened to the file

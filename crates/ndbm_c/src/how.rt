@@ -5,7 +5,7 @@ ghost use Rattle.ndbm_c.specs.Opening.{how_of};
 use dbm_file::{Access, OpenHow, Version};
 use sect_dev::Past;
 
-// How many pages are kept in memory at most, 32 MB of them.
+// How many pages are kept in memory at most where nobody asks for another number, 32 MB of them.
 const KEPT_PAGES: u32 = 16_384;
 
 /// A file that C serves.
@@ -28,6 +28,8 @@ pub struct How {
     /// Whether a database that is made or emptied is one of version 1; else it is one of version 2.
     pub first_version: bool,
     pub limit: u32,
+    /// How many pages are kept in memory at most, 1 to 65,536, or 0 for 16,384.
+    pub kept_pages: u32,
 }
 
 impl How {
@@ -49,7 +51,11 @@ impl How {
             } else {
                 Version::V2
             },
-            kept_pages: Some(KEPT_PAGES),
+            kept_pages: Some(if self.kept_pages == 0 {
+                KEPT_PAGES
+            } else {
+                self.kept_pages
+            }),
         }
     }
 }

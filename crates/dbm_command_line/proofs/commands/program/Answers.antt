@@ -2,7 +2,7 @@ use Rattle.std.proofs.Common.{true, codes}
 use Rattle.std.proofs.lemmas.Result.{IfOk-from_err}
 use Rattle.clap.specs.Words.{App, Shape, new_app, with_rule}
 use Rattle.dbm_command_line.specs.Building.{IsApp, alone}
-use Rattle.dbm_command_line.specs.CommandLine.{program_line, verbose_rule, wait_rule}
+use Rattle.dbm_command_line.specs.CommandLine.{cache_rule, program_line, verbose_rule, wait_rule}
 use Rattle.dbm_command_line.proofs.Building.{option_added, with_about, with_after_help, with_bin_name, with_no_binary_name, with_option, with_subcommand_required, with_version}
 use Rattle.dbm_command_line.proofs.commands.program.Goals as goal
 
@@ -23,6 +23,11 @@ pub returns-in_err-arg : goal.returns-in_err-arg
 returns-in_err-arg c =
     IfOk-from_err c.from_residual-in_err-arg.result (λ made. IsApp made (alone program_line))
     c.from_residual-in_err-arg.ensures.0
+
+pub returns-in_err-arg-2 : goal.returns-in_err-arg-2
+returns-in_err-arg-2 c =
+    IfOk-from_err c.from_residual-in_err-arg-2.result (λ made. IsApp made (alone program_line))
+    c.from_residual-in_err-arg-2.ensures.0
 
 pub returns : goal.returns
 returns c =
@@ -56,6 +61,11 @@ returns c =
     let with_verbose : IsApp c.in_ok-arg.field-0 (with_rule (alone bare_line) verbose_rule) =
     with_option c.in_ok-bin_name.field-0 c.in_ok-arg.field-0 c.verbose.result (alone bare_line)
     verbose_rule named c.verbose.ensures c.in_ok-arg.ensures in
-    option_added c.in_ok-arg.field-0 c.wait.result c.arg-2.result
+    let with_wait : IsApp c.in_ok-arg-2.field-0
+    (with_rule (with_rule (alone bare_line) verbose_rule) wait_rule) =
+    with_option c.in_ok-arg.field-0 c.in_ok-arg-2.field-0 c.wait.result
     (with_rule (alone bare_line) verbose_rule) wait_rule with_verbose c.wait.ensures
-    c.arg-2.ensures
+    c.in_ok-arg-2.ensures in
+    option_added c.in_ok-arg-2.field-0 c.cache.result c.arg-3.result
+    (with_rule (with_rule (alone bare_line) verbose_rule) wait_rule) cache_rule with_wait
+    c.cache.ensures c.arg-3.ensures

@@ -1,6 +1,6 @@
 use Rattle.std.proofs.Common.{◌≡◌, ◌∙◌, IfErr, IfOk, inl, map, ap, refl, codes}
 use Rattle.clap.specs.Words.{app_of, takes}
-use Rattle.dbm_command_line.specs.Asking.{IsVerbose, IsWait, Names, NamesNoFile, NamesNoMemory, NamesNoReplace, NamesNoSource}
+use Rattle.dbm_command_line.specs.Asking.{AreOptions, Names, NamesNoFile, NamesNoMemory, NamesNoReplace, NamesNoSource}
 use Rattle.dbm_command_line.specs.declared.words.WordsError.TheVariants.{LoadLimit, ReadSource, RehearsalSource, ScriptSource, VersionSource}
 use Rattle.dbm_command_line.proofs.Reading.{of_words, rows_of_words}
 use Rattle.dbm_command_line.proofs.Refusing.{choice_is_sorted, choice_passes, memory_is_other}
@@ -12,19 +12,12 @@ returns-in-Ok-try_get_matches_from-clause-plan c =
     (map (λ word. word.now) c.args.words.now) (λ entered. IfOk c.read_request.result (λ r. Names entered r.plan))
     c.in-Ok.ensures.shape c.in-Ok-try_get_matches_from.ensures.matches c.read_request.ensures.plan
 
-pub returns-in-Ok-try_get_matches_from-clause-verbose : goal.returns-in-Ok-try_get_matches_from-clause-verbose
-returns-in-Ok-try_get_matches_from-clause-verbose c =
+pub returns-in-Ok-try_get_matches_from-clause-options : goal.returns-in-Ok-try_get_matches_from-clause-options
+returns-in-Ok-try_get_matches_from-clause-options c =
     rows_of_words c.in-Ok-try_get_matches_from.matches (app_of c.in-Ok.command)
     (map (λ word. word.now) c.args.words.now)
-    (λ rows. IfOk c.read_request.result (λ r. IsVerbose rows r.verbose))
-    c.in-Ok.ensures.shape c.in-Ok-try_get_matches_from.ensures.matches c.read_request.ensures.verbose
-
-pub returns-in-Ok-try_get_matches_from-clause-wait : goal.returns-in-Ok-try_get_matches_from-clause-wait
-returns-in-Ok-try_get_matches_from-clause-wait c =
-    rows_of_words c.in-Ok-try_get_matches_from.matches (app_of c.in-Ok.command)
-    (map (λ word. word.now) c.args.words.now)
-    (λ rows. IfOk c.read_request.result (λ r. IsWait rows r.wait))
-    c.in-Ok.ensures.shape c.in-Ok-try_get_matches_from.ensures.matches c.read_request.ensures.wait
+    (λ rows. IfOk c.read_request.result (AreOptions rows))
+    c.in-Ok.ensures.shape c.in-Ok-try_get_matches_from.ensures.matches c.read_request.ensures.options
 
 pub returns-in-Ok-try_get_matches_from-clause-source : goal.returns-in-Ok-try_get_matches_from-clause-source
 returns-in-Ok-try_get_matches_from-clause-source c =

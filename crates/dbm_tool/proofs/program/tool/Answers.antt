@@ -74,7 +74,7 @@ pub returns-else-is_unread-clause-fault : goal.returns-else-is_unread-clause-fau
 returns-else-is_unread-clause-fault g c two =
     tells_fault _ c.in-Ok.request.plan c.carry_out-done.result _ _ c.in-Ok.request.verbose
     c.args.environment.verbose _ c.known_of-known.result.line _ _ c.in-Ok.ensures.plan
-    c.carry_out-done.ensures.ends c.carry_out-done.ensures.carried c.in-Ok.ensures.verbose
+    c.carry_out-done.ensures.ends c.carry_out-done.ensures.carried c.in-Ok.ensures.options.verbose
     c.known_of-known.ensures.line (lines_as c.carry_out-done.result _ _ _ _ _ _ _ _
     c.wants_more.ensures c.known_of-known.ensures.file c.ended_by.ensures.line)
     c.ended_by.ensures.status two
