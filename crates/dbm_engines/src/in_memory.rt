@@ -35,11 +35,19 @@ pub fn script_in_memory<R: BufRead, O: Write>(
         Err(fault) => return Err(in_memory(fault)),
     };
     let done = script_engine(alloc, &mut db, form, input, output);
-    let (_, closed) = db.close();
+    let closed = close_in_memory(db);
     let flushed = output.flush();
     done?;
-    closed.map_err(in_memory)?;
+    closed?;
     flushed.map_err(|_| EngineFault::Write)
+}
+
+/// Closes a database in memory, which is refused where a growth of its device was.
+fn close_in_memory(db: Db<MemDev>) -> Result<(), EngineFault>
+    ensures { IfErr result (λ e. e ≡ EngineFault.Memory) }
+{
+    let (_, closed) = db.close();
+    closed.map_err(in_memory)
 }
 
 /// Tells a fault of a database in memory. Its device fails only where a growth is refused.
