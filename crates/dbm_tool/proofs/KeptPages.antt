@@ -1,21 +1,23 @@
 -- How many pages an opening keeps in memory is no part of what it does with the file.
-use Rattle.std.proofs.Common.{ℕ, ◌⊎◌, ⊎_elim, inl, inr, Option, Result, Ok, Err}
+use Rattle.std.proofs.Common.{◌≡◌, ◌≢◌, ◌&&◌, ◌⊎◌, ◌/◌, ⊎_elim, inl, inr, ℕ, false, Option, Result, Ok, Err, IfOk, IfErr}
 use Rattle.dbm_model.specs.Bounds.{Bounds}
 use Rattle.dbm_model.specs.Pairs.{Contents}
-use Rattle.sect_dev.specs.Device.{Candidates, LeavesOnly, Moment}
+use Rattle.sect_dev.specs.Device.{Candidates, Image, LeavesOnly, Moment}
 use Rattle.sect_dev.specs.declared.device.SectorDev as device
 use Rattle.page_io.specs.declared.store.PageStore as store
-use Rattle.page_io.specs.Store.{Pages, Settled}
-use Rattle.page_model.specs.Pages.{Meta}
+use Rattle.page_io.specs.Store.{Pages, Settled, blank, file_of, nothing}
+use Rattle.redo_area.specs.File.{settled}
 use Rattle.redo_area.specs.declared.pager.Pager.{Pager}
 use Rattle.page_cache.specs.declared.cached_pages.CachedPages.{CachedPages}
-use Rattle.file_opening.specs.Opening.{Makes, EmptiesFile, Empties, BeginsEmpty, MayRemain, KeepsMetaOf, KeepsMeta, IsOpened, IsRefusedOpening}
+use Rattle.file_opening.specs.Opening.{writes, Makes, EmptiesFile, Empties, BeginsEmpty, MayRemain, KeepsMetaOf, KeepsMeta, IsOpened, RefusesBy, IsRefusedOpening}
 use Rattle.file_opening.specs.declared.open_how.OpenHow.{OpenHow}
 use Rattle.dbm_fault.specs.declared.fault.Fault.{Fault}
+use Rattle.dbm_fault.specs.declared.fault.Fault.TheVariants.{Broken, Device, Full, Memory, Missing, NoPass, TooLong}
+use Rattle.dbm_file.specs.Opened.{IsNewlyOpened}
 use Rattle.dbm_file.specs.Named.{OpensFile, RefusesFile}
 use Rattle.dbm_file.specs.declared.database.Database.{Database}
 use Rattle.dbm_file.specs.declared.named.Refusal.{Refusal}
-use Rattle.dbm_tool.specs.Files.{IsOpening, RefusesOpening}
+use Rattle.dbm_tool.specs.Files.{IsOpening}
 
 -- an opening that keeps so many
 abbrev pub keeping : OpenHow → Option ℕ → OpenHow
@@ -57,7 +59,7 @@ module _ (how : OpenHow) (kept : Option ℕ) (sectors : ℕ) where
       → MayRemain (keeping how kept) sectors start now → MayRemain how sectors start now
   may_remain start now = ⊎_elim (λ was. inl was) (λ made. inr (begins start made.0, made.1))
 
-  keeps_meta : (start : Candidates) (meta : Meta) → KeepsMeta (keeping how kept) sectors start meta
+  keeps_meta : (start : Candidates) (meta : _) → KeepsMeta (keeping how kept) sectors start meta
       → KeepsMeta how sectors start meta
   keeps_meta start meta = ⊎_elim
       (λ there. inl (
@@ -74,13 +76,21 @@ module _ (how : OpenHow) (kept : Option ℕ) (sectors : ℕ) where
   opened start map bounds = ⊎_elim (λ stood. inl stood)
       (λ made. inr (begins start made.0, made.1, made.2))
 
+  refuses_by : (found : Settled) (image : Image) (fault : Fault)
+      → RefusesBy found (keeping how kept) sectors image fault
+      → RefusesBy found how sectors image fault
+  refuses_by blank image fault by = by
+  refuses_by (file_of pages) image fault by = by
+  refuses_by nothing image fault by = by
+
   refused : (start now : Candidates) (fault : Fault)
       → IsRefusedOpening (keeping how kept) sectors start now fault
       → IsRefusedOpening how sectors start now fault
   refused start now fault r = record {
     image = r.image;
     at_start = r.at_start;
-    refuses = r.refuses;
+    refuses = ⊎_elim (λ by. inl (refuses_by (settled (sectors / 4) r.image) r.image fault by))
+        (λ memory. inr memory) r.refuses;
     left = r.left;
   }
 
@@ -114,13 +124,21 @@ module _ {D : Type 0} (bound : device.Ghosts D) (how : OpenHow) (kept : Option �
         (λ late. inr (refused how kept _ _ _ fault late)) (r.refused honest);
   }
 
-  pub is_opening : {p : store.Ghosts (Pager D bound)}
+  -- what `open_named` tells of an opening that keeps so many
+  pub opened_so : {p : store.Ghosts (Pager D bound)}
       {s : store.Ghosts (CachedPages (Pager D bound) p)}
       (result : Result (Database (CachedPages (Pager D bound) p) s) Refusal)
-      → IsOpening bound (keeping how kept) result → IsOpening bound how result
-  is_opening (Ok db) is = (opens db is.0, is.1)
-  is_opening (Err named) r = record {
-    no_call = r.no_call;
-    missing = r.missing;
-    refused = λ memory missing dev. refuses_file named.fault (r.refused memory missing dev);
+      → IfOk result (IsNewlyOpened (writes how.access) 68250498)
+      → IfErr result (λ e. e.fault ≡ Missing → (writes how.access && how.create) ≡ false)
+      → IfErr result (λ e. (e.fault ≢ Broken) × (e.fault ≢ TooLong) × (e.fault ≢ Full)
+      × (e.fault ≢ NoPass))
+      → IfOk result (OpensFile (keeping how kept))
+      → IfErr result (λ e. e.fault ≢ Memory → e.fault ≢ Missing → e.fault ≢ Device
+      → RefusesFile bound (keeping how kept) e.fault)
+      → IsOpening bound how result
+  opened_so (Ok db) fresh missing only opening refusal = (opens db opening, fresh)
+  opened_so (Err named) fresh missing only opening refusal = record {
+    no_call = only;
+    missing = missing;
+    refused = λ memory absent dev. refuses_file named.fault (refusal memory absent dev);
   }
