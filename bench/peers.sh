@@ -10,7 +10,8 @@
 #
 # In the environment: ROUNDS (3); GROUP (10000), how many lines of a load of dbmtool share a commit; MOST
 # (2000), the most pairs that are stored one by one, and as many deleted, since on a disk each may
-# take milliseconds; DBMTOOL, a built program to measure in place of this tree's.
+# take milliseconds; CACHE, how many pages dbmtool keeps in memory (--cache); DBMTOOL, a built program to
+# measure in place of this tree's.
 set -euo pipefail
 top=$(cd "$(dirname "$0")/.." && pwd)
 folder=${1:?the folder that is to be measured}
@@ -86,6 +87,7 @@ run() {
   local name=$1 workload=$2 words=(script) begun ended
   if [ "$workload" = load ]; then words=(load); fi
   if [ "$name $workload" = 'dbmtool load' ]; then words+=(--group "$group"); fi
+  if [ "$name" = dbmtool ] && [ -n "${CACHE:-}" ]; then words=(--cache "$CACHE" "${words[@]}"); fi
   # what others have written is not to be written within this one's time
   sync -f .
   begun=${EPOCHREALTIME/./}
