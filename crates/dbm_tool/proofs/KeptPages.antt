@@ -9,7 +9,7 @@ use Rattle.page_io.specs.Store.{Pages, Settled, blank, file_of, nothing}
 use Rattle.redo_area.specs.File.{settled}
 use Rattle.redo_area.specs.declared.pager.Pager.{Pager}
 use Rattle.page_cache.specs.declared.cached_pages.CachedPages.{CachedPages}
-use Rattle.file_opening.specs.Opening.{writes, Makes, EmptiesFile, Empties, BeginsEmpty, MayRemain, KeepsMetaOf, KeepsMeta, IsOpened, RefusesBy, IsRefusedOpening}
+use Rattle.file_opening.specs.Opening.{writes, Makes, EmptiesFile, BeginsEmpty, MayRemain, KeepsMeta, IsOpened, RefusesBy, IsRefusedOpening}
 use Rattle.file_opening.specs.declared.open_how.OpenHow.{OpenHow}
 use Rattle.dbm_fault.specs.declared.fault.Fault.{Fault}
 use Rattle.dbm_fault.specs.declared.fault.Fault.TheVariants.{Broken, Device, Full, Memory, Missing, NoPass, TooLong}
