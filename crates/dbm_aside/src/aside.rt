@@ -66,15 +66,28 @@ pub fn device_of<T: Files<File = File>>(rt: &T, path: &str, write: bool) -> io::
 /// which it then keeps, since only the process that has it locked gives its name away. So a file
 /// that was renamed to a table's meanwhile stays, and so does one that another process has made.
 pub fn take_away<T: Files<File = File>>(rt: &T, path: &str) -> io::Result<()> {
-    if found_at(rt, path)?.is_none() {
-        return Ok(());
+    match left_at(rt, path)? {
+        Some(left) => take_locked(rt, path, &left),
+        None => Ok(()),
     }
-    let left = match OpenOptions::new().read(true).write(true).open(rt, path) {
-        Err(error) if error.kind() == ErrorKind::NotFound => return Ok(()),
-        left => left?,
-    };
-    lock_alone(&left)?;
-    if is_under(rt, &left, path)? {
+}
+
+/// The file that was left under a path, opened as it is, if there is one.
+fn left_at<T: Files<File = File>>(rt: &T, path: &str) -> io::Result<Option<File>> {
+    if found_at(rt, path)?.is_none() {
+        return Ok(None);
+    }
+    match OpenOptions::new().read(true).write(true).open(rt, path) {
+        Ok(left) => Ok(Some(left)),
+        Err(error) if error.kind() == ErrorKind::NotFound => Ok(None),
+        Err(error) => Err(error),
+    }
+}
+
+/// Takes a file's name away, where this process locks it alone and it still has that name.
+fn take_locked<T: Files<File = File>>(rt: &T, path: &str, left: &File) -> io::Result<()> {
+    lock_alone(left)?;
+    if is_under(rt, left, path)? {
         rt.remove_file(path)?;
     }
     Ok(())

@@ -33,17 +33,38 @@ pub fn backup<T: Files<File = File>, P: Progress>(
     ensures { IfErr result (λ stop. IsOfDatabase stop.fault) }
 {
     let from = names_of(alloc, file)?;
-    let to = names_of(alloc, to)?;
     let source = open_source(rt, &from.file)?;
-    if found_at(rt, &to.file)?.is_some() {
-        return Err(Stop::from(Fault::Exists));
-    }
+    copy_to(rt, alloc, &source, to, progress)
+}
+
+/// Copies the source, which is open, to another name, at which there is none.
+fn copy_to<T: Files<File = File>, P: Progress>(
+    rt: &T,
+    alloc: Global,
+    source: &File,
+    to: &str,
+    progress: &mut P,
+) -> Result<u32, Stop>
+    ensures { IfErr result (λ stop. IsOfDatabase stop.fault) }
+{
+    let to = names_of(alloc, to)?;
+    refuse_existing(rt, &to.file)?;
     let aside = Aside::make(rt, &to.aside)?;
-    let done = copy_aside(rt, alloc, &source, aside, &to, progress);
+    let done = copy_aside(rt, alloc, source, aside, &to, progress);
     if done.is_err() {
         give_up(rt, &to.aside);
     }
     done
+}
+
+/// Refuses a name that something has.
+fn refuse_existing<T: Files<File = File>>(rt: &T, path: &str) -> Result<(), Stop>
+    ensures { IfErr result (λ stop. IsOfDatabase stop.fault) }
+{
+    if found_at(rt, path)?.is_some() {
+        return Err(Stop::from(Fault::Exists));
+    }
+    Ok(())
 }
 
 /// Opens the file of a table, with a lock that other readers share.

@@ -6,7 +6,7 @@ ghost use Rattle.dbm_aside.specs.Stops.{IsOfDatabase, Ends};
 use crate::aside::{Aside, give_up, own_as};
 use crate::naming::{Names, found_at, names_of};
 use crate::stop::Stop;
-use crate::verified::Verified;
+use crate::verified::{Verified, opened};
 use dbm_fault::EngineFault;
 use dbm_file::{Access, Db, Fault, OpenHow, Version, open_named};
 use dbm_progress::Progress;
@@ -84,20 +84,21 @@ fn start<T: Files<File = File>>(
     ensures { IfErr result (λ stop. IsOfDatabase stop.fault) }
 {
     let old = open_named(rt, alloc, file, how(Access::ReadOnly, 0, Version::V1))?;
-    let like = rt.metadata(&names.file)?;
-    own_as(&aside.made, &like)?;
+    let mode = own_as_old(rt, names, &aside)?;
     let limit = limit.unwrap_or(old.stat().limit);
-    match Db::open(
+    let new = opened(
         alloc,
         aside.dev,
         how(Access::ReadWrite, limit, old.version()),
-    ) {
-        Ok(new) => Ok((old, new, aside.made, like.mode())),
-        Err((dev, fault)) => Err(Stop {
-            fault: EngineFault::Db(fault),
-            system: dev.last_error(),
-        }),
-    }
+    )?;
+    Ok((old, new, aside.made, mode))
+}
+
+/// Gives the new file the owner of the old one, whose mode is the answer.
+fn own_as_old<T: Files<File = File>>(rt: &T, names: &Names, aside: &Aside) -> io::Result<u32> {
+    let like = rt.metadata(&names.file)?;
+    own_as(&aside.made, &like)?;
+    Ok(like.mode())
 }
 
 /// For writing a new database is made.

@@ -23,7 +23,6 @@ use std::rt::Files;
 
 /// A file beside a table's that was synced, opened for reading and looked through. Its lock is
 /// shared: whoever opens it under the table's name for reading isn't refused, and nobody writes it.
-#[derive(Drop)]
 pub struct Verified {
     db: Db<FileDev>,
     pairs: u32,
@@ -31,6 +30,12 @@ pub struct Verified {
     ghost whole: { ⟦<CachedPages<Pager<FileDev>> as PageStore>⟧.honest (store_of db)
         → ∥ IsFileOf (⟦<CachedPages<Pager<FileDev>> as PageStore>⟧.committed (store_of db))
         pairs ∥₁ },
+}
+
+impl Drop for Verified {
+    fn drop(self) {
+        let Verified { db, pairs } = self;
+    }
 }
 
 impl Verified {
@@ -47,12 +52,7 @@ impl Verified {
     ) -> Result<Verified, Stop>
         ensures { IfErr result (λ stop. IsOfDatabase stop.fault) }
     {
-        made.set_permissions(Permissions::from_mode(mode & 0o7777))?;
-        made.sync_all()?;
-        let dev = device_of(rt, path, false)?;
-        if !is_under(rt, made, path)? {
-            return Err(Stop::from(taken()));
-        }
+        let dev = synced(rt, path, made, mode)?;
         let mut db = open_table(alloc, dev)?;
         match look_through(alloc, &mut db, progress) {
             Ok(pairs) => Ok(Verified { db, pairs }),
@@ -72,8 +72,8 @@ impl Verified {
 
     /// Gives the file the name of a table, in the place of the file that has that name, in one step,
     /// and syncs the folder. Where the renaming fails that file stays.
-    pub fn replace<T: Files<File = File>>(self, rt: &T, path: &str, name: &str) -> io::Result<u32>
-        ensures { IfOk result (λ pairs. pairs ≡ self.pairs) }
+    pub fn replace<T: Files<File = File>>(&self, rt: &T, path: &str, name: &str) -> io::Result<u32>
+        ensures { IfOk result (λ pairs. pairs ≡ self.now.pairs) }
     {
         rt.rename(path, name)?;
         sync_folder(rt, name)?;
@@ -83,13 +83,30 @@ impl Verified {
     /// Gives the file the name of a table where nothing has that name, in one step, and syncs the
     /// folder. A link is made, which is refused where the name is there, and the first name is then
     /// removed: a renaming would take the place of a file that was made meanwhile.
-    pub fn put<T: Files<File = File>>(self, rt: &T, path: &str, name: &str) -> io::Result<u32>
-        ensures { IfOk result (λ pairs. pairs ≡ self.pairs) }
+    pub fn put<T: Files<File = File>>(&self, rt: &T, path: &str, name: &str) -> io::Result<u32>
+        ensures { IfOk result (λ pairs. pairs ≡ self.now.pairs) }
     {
         rt.hard_link(path, name)?;
         rt.remove_file(path)?;
         sync_folder(rt, name)?;
         Ok(self.pairs)
+    }
+}
+
+/// Gives a file its mode, syncs it, and opens it again under its path.
+fn synced<T: Files<File = File>>(
+    rt: &T,
+    path: &str,
+    made: &File,
+    mode: u32,
+) -> io::Result<FileDev> {
+    made.set_permissions(Permissions::from_mode(mode & 0o7777))?;
+    made.sync_all()?;
+    let dev = device_of(rt, path, false)?;
+    if is_under(rt, made, path)? {
+        Ok(dev)
+    } else {
+        Err(taken())
     }
 }
 
@@ -106,6 +123,13 @@ fn open_table(alloc: Global, dev: FileDev) -> Result<Db<FileDev>, Stop>
         version: Version::V1,
         kept_pages: None,
     };
+    opened(alloc, dev, how)
+}
+
+/// Opens a table on a device.
+pub fn opened(alloc: Global, dev: FileDev, how: OpenHow) -> Result<Db<FileDev>, Stop>
+    ensures { IfErr result (λ stop. IsOfDatabase stop.fault) }
+{
     match Db::open(alloc, dev, how) {
         Ok(db) => Ok(db),
         Err((dev, fault)) => Err(Stop {

@@ -22,6 +22,7 @@ pub mod ReadSteps
 pub mod ReadThrough
 pub mod Refused
 pub mod RefusedChanges
+pub mod Reopenings
 pub mod RoomCounts
 pub mod Runs
 pub mod Searches

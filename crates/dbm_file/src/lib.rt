@@ -12,6 +12,7 @@ mod opening;
 mod pair;
 mod pass;
 mod passing;
+mod reopening;
 mod running;
 mod serving;
 mod syncing;

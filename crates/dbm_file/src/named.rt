@@ -94,7 +94,7 @@ pub fn open_named<R: Files<File = File>>(
     };
     let writable = how.access.is_writable();
     match open_path(rt, path.as_str(), writable, how.create) {
-        Ok(dev) => match Db::open(alloc, dev, how) {
+        Ok(dev) => match Db::open_again(alloc, dev, how) {
             Ok(db) => Ok(db),
             Err((dev, fault)) => Err(refused_by(&dev, fault)),
         },

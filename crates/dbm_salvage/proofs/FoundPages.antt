@@ -5,12 +5,10 @@ use Rattle.std.proofs.KnownBytes.{Appends-nil, Appends-trans}
 use Rattle.std.proofs.lemmas.Bool.{cases_lt}
 use Rattle.std.proofs.lemmas.Grind.{flat_map-append}
 use Rattle.std.proofs.lemmas.List.{length-append}
-use Rattle.sect_dev.specs.Device.{Image}
 use Rattle.dbm_model.specs.Pairs.{Pair}
 use Rattle.page_model.specs.Meaning.{records_on}
 use Rattle.page_model.specs.Pages.{Record}
 use Rattle.page_model.specs.Reading.{body_of}
-use Rattle.page_io.specs.Page.{page_at}
 use Rattle.dbm_salvage.specs.Salvage.{said_in, ReadsAs, ArePairsOf, printed, IsNoPage, Found, HasPairs, IsFound, IsPageSalvaged, AreFound, lines_of, told_by, told_from, all_printed, AreSalvaged}
 use Rattle.dbm_salvage.specs.Telling.{Tells}
 use Rattle.dbm_salvage.specs.declared.trouble.Trouble.{Trouble}
@@ -20,113 +18,113 @@ use Rattle.dbm_salvage.proofs.RecordPairs.{AreDone, length-pairs, all_done}
 -- ---- one page
 
 -- the device may have failed later
-pub found_weaker : (image : Image) (pages : ℕ) (F G : Type 0) (n : ℕ)
+pub found_weaker : (file : ℕ → List ℕ) (pages : ℕ) (F G : Type 0) (n : ℕ)
     (pairs : List (Option Pair)) (trouble : Option Trouble) → (F → G)
-    → IsFound image pages F n pairs trouble → IsFound image pages G n pairs trouble
-found_weaker image pages F G n pairs None more is = is
-found_weaker image pages F G n pairs (Some Content) more is = is
-found_weaker image pages F G n pairs (Some Unread) more is = (more is.0, is.1)
-found_weaker image pages F G n pairs (Some Blank) more is = is
-found_weaker image pages F G n pairs (Some NoPage) more is = is
-found_weaker image pages F G n pairs (Some Elsewhere) more is = is
+    → IsFound file pages F n pairs trouble → IsFound file pages G n pairs trouble
+found_weaker file pages F G n pairs None more is = is
+found_weaker file pages F G n pairs (Some Content) more is = is
+found_weaker file pages F G n pairs (Some Unread) more is = (more is.0, is.1)
+found_weaker file pages F G n pairs (Some Blank) more is = is
+found_weaker file pages F G n pairs (Some NoPage) more is = is
+found_weaker file pages F G n pairs (Some Elsewhere) more is = is
 
-pub page_weaker : (image : Image) (pages : ℕ) (F G : Type 0) (n : ℕ) (old new : Option (List ℕ))
+pub page_weaker : (file : ℕ → List ℕ) (pages : ℕ) (F G : Type 0) (n : ℕ) (old new : Option (List ℕ))
     (count : ℕ) (trouble : Option Trouble) → (F → G)
-    → IsPageSalvaged image pages F n old new count trouble
-    → IsPageSalvaged image pages G n old new count trouble
-page_weaker image pages F G n old new count trouble more is = record {
+    → IsPageSalvaged file pages F n old new count trouble
+    → IsPageSalvaged file pages G n old new count trouble
+page_weaker file pages F G n old new count trouble more is = record {
   pairs = is.pairs;
-  is_found = found_weaker image pages F G n is.pairs trouble more is.is_found;
+  is_found = found_weaker file pages F G n is.pairs trouble more is.is_found;
   count_is = is.count_is;
   written = is.written;
 }
 
 -- a page that reads as none
-no_page : (image : Image) (pages : ℕ) (F : Type 0) (n : ℕ) (trouble : Trouble)
-    → IsNoPage n (page_at image n) trouble → IsFound image pages F n [] (Some trouble)
-no_page image pages F n Unread is = absurd is
-no_page image pages F n Blank is = (refl, is)
-no_page image pages F n NoPage is = (refl, is)
-no_page image pages F n Elsewhere is = (refl, is)
-no_page image pages F n Content is = absurd is
+no_page : (file : ℕ → List ℕ) (pages : ℕ) (F : Type 0) (n : ℕ) (trouble : Trouble)
+    → IsNoPage n (file n) trouble → IsFound file pages F n [] (Some trouble)
+no_page file pages F n Unread is = absurd is
+no_page file pages F n Blank is = (refl, is)
+no_page file pages F n NoPage is = (refl, is)
+no_page file pages F n Elsewhere is = (refl, is)
+no_page file pages F n Content is = absurd is
 
 -- nothing was written
-nothing : (image : Image) (pages : ℕ) (F : Type 0) (n : ℕ) (old : Option (List ℕ)) (count : ℕ)
-    (trouble : Option Trouble) → count ≡ 0 → IsFound image pages F n [] trouble
-    → IsPageSalvaged image pages F n old old count trouble
-nothing image pages F n old count trouble none is =
+nothing : (file : ℕ → List ℕ) (pages : ℕ) (F : Type 0) (n : ℕ) (old : Option (List ℕ)) (count : ℕ)
+    (trouble : Option Trouble) → count ≡ 0 → IsFound file pages F n [] trouble
+    → IsPageSalvaged file pages F n old old count trouble
+nothing file pages F n old count trouble none is =
     record { pairs = []; is_found = is; count_is = none; written = Appends-nil old }
 
-pub unread_page : (image : Image) (pages : ℕ) (F : Type 0) (n : ℕ) (old : Option (List ℕ))
+pub unread_page : (file : ℕ → List ℕ) (pages : ℕ) (F : Type 0) (n : ℕ) (old : Option (List ℕ))
     (count : ℕ) (trouble : Option Trouble) → count ≡ 0 → trouble ≡ Some Unread → F
-    → IsPageSalvaged image pages F n old old count trouble
-unread_page image pages F n old count trouble none told failed =
-    nothing image pages F n old count trouble none
-    (subst (IsFound image pages F n []) (sym told) (failed, inl refl))
+    → IsPageSalvaged file pages F n old old count trouble
+unread_page file pages F n old count trouble none told failed =
+    nothing file pages F n old count trouble none
+    (subst (IsFound file pages F n []) (sym told) (failed, inl refl))
 
-pub other_page : (image : Image) (pages : ℕ) (F : Type 0) (n : ℕ) (bytes : List ℕ)
+pub other_page : (file : ℕ → List ℕ) (pages : ℕ) (F : Type 0) (n : ℕ) (bytes : List ℕ)
     (old : Option (List ℕ)) (count : ℕ) (trouble : Option Trouble) (why : Trouble) → count ≡ 0
-    → trouble ≡ Some why → bytes ≡ page_at image n → IsNoPage n bytes why
-    → IsPageSalvaged image pages F n old old count trouble
-other_page image pages F n bytes old count trouble why none told read is =
-    nothing image pages F n old count trouble none
-    (subst (IsFound image pages F n []) (sym told) (no_page image pages F n why
+    → trouble ≡ Some why → bytes ≡ file n → IsNoPage n bytes why
+    → IsPageSalvaged file pages F n old old count trouble
+other_page file pages F n bytes old count trouble why none told read is =
+    nothing file pages F n old count trouble none
+    (subst (IsFound file pages F n []) (sym told) (no_page file pages F n why
     (subst (λ (b : List ℕ). IsNoPage n b why) read is)))
 
 -- the pairs of a page that reads as page n
-has_pairs : (image : Image) (pages n : ℕ) (failed : Bool) (bytes : List ℕ)
-    (records : List Record) (pairs : List (Option Pair)) → bytes ≡ page_at image n
+has_pairs : (file : ℕ → List ℕ) (pages n : ℕ) (failed : Bool) (bytes : List ℕ)
+    (records : List Record) (pairs : List (Option Pair)) → bytes ≡ file n
     → ReadsAs n bytes → records_on (body_of n bytes) ≡ records
-    → ArePairsOf (said_in image pages) failed records pairs → HasPairs image pages n failed pairs
-has_pairs image pages n failed bytes records pairs read reads said are = record {
+    → ArePairsOf (said_in file pages) failed records pairs → HasPairs file pages n failed pairs
+has_pairs file pages n failed bytes records pairs read reads said are = record {
   reads = subst (ReadsAs n) read reads;
-  pairs_are = subst (λ (rs : List Record). ArePairsOf (said_in image pages) failed rs pairs)
+  pairs_are = subst (λ (rs : List Record). ArePairsOf (said_in file pages) failed rs pairs)
       (sym said ∙ ap (λ (b : List ℕ). records_on (body_of n b)) read) are;
 }
 
-pub bare_page : (image : Image) (pages : ℕ) (F : Type 0) (n : ℕ) (bytes : List ℕ)
-    (old : Option (List ℕ)) → bytes ≡ page_at image n → ReadsAs n bytes
+pub bare_page : (file : ℕ → List ℕ) (pages : ℕ) (F : Type 0) (n : ℕ) (bytes : List ℕ)
+    (old : Option (List ℕ)) → bytes ≡ file n → ReadsAs n bytes
     → records_on (body_of n bytes) ≡ []
-    → IsPageSalvaged image pages F n old old 0 None
-bare_page image pages F n bytes old read reads said =
-    nothing image pages F n old 0 None refl
-    (has_pairs image pages n false bytes [] [] read reads said tt, refl)
+    → IsPageSalvaged file pages F n old old 0 None
+bare_page file pages F n bytes old read reads said =
+    nothing file pages F n old 0 None refl
+    (has_pairs file pages n false bytes [] [] read reads said tt, refl)
 
 -- a bucket page, of which all records are done
-pub bucket_page : (image : Image) (pages : ℕ) (F : Type 0) (n : ℕ) (bytes : List ℕ)
+pub bucket_page : (file : ℕ → List ℕ) (pages : ℕ) (F : Type 0) (n : ℕ) (bytes : List ℕ)
     (records : List Record) (i : ℕ) (failed : Bool) (old new : Option (List ℕ)) (count all : ℕ)
-    (trouble : Option Trouble) → bytes ≡ page_at image n → ReadsAs n bytes
+    (trouble : Option Trouble) → bytes ≡ file n → ReadsAs n bytes
     → records_on (body_of n bytes) ≡ records → length records ≤ i → all ≡ length records
     → count ≤ all
-    → AreDone (said_in image pages) failed records i old new count → (failed ≡ true → F)
+    → AreDone (said_in file pages) failed records i old new count → (failed ≡ true → F)
     → (failed ≡ true → trouble ≡ Some Unread)
     → (failed ≡ false → count < all → trouble ≡ Some Content)
     → (failed ≡ false → all ≤ count → trouble ≡ None)
-    → IsPageSalvaged image pages F n old new count trouble
-bucket_page image pages F n bytes records i true old new count all trouble read reads said le
+    → IsPageSalvaged file pages F n old new count trouble
+bucket_page file pages F n bytes records i true old new count all trouble read reads said le
     size few done faulted unread lost whole =
-    let are = all_done (said_in image pages) true records i old new count le done in
+    let are = all_done (said_in file pages) true records i old new count le done in
     record {
       pairs = done.pairs;
-      is_found = subst (IsFound image pages F n done.pairs) (sym (unread refl)) (
+      is_found = subst (IsFound file pages F n done.pairs) (sym (unread refl)) (
         faulted refl,
-        inr (has_pairs image pages n true bytes records done.pairs read reads
+        inr (has_pairs file pages n true bytes records done.pairs read reads
             said are),
       );
       count_is = done.count_is;
       written = done.written;
     }
-bucket_page image pages F n bytes records i false old new count all trouble read reads said le
+bucket_page file pages F n bytes records i false old new count all trouble read reads said le
     size few done faulted unread lost whole =
-    let are = all_done (said_in image pages) false records i old new count le done in
-    let has = has_pairs image pages n false bytes records done.pairs read reads said are in
-    let long = length-pairs (said_in image pages) false records done.pairs are in
+    let are = all_done (said_in file pages) false records i old new count le done in
+    let has = has_pairs file pages n false bytes records done.pairs read reads said are in
+    let long = length-pairs (said_in file pages) false records done.pairs are in
     record {
       pairs = done.pairs;
       is_found = ⊎_elim
-          (λ lt. subst (IsFound image pages F n done.pairs) (sym (lost refl lt))
+          (λ lt. subst (IsFound file pages F n done.pairs) (sym (lost refl lt))
           (has, omega (arith, lt, long, size, done.count_is)))
-          (λ not. subst (IsFound image pages F n done.pairs) (sym (whole refl not))
+          (λ not. subst (IsFound file pages F n done.pairs) (sym (whole refl not))
           (has, omega (arith, not, few, long, size, done.count_is)))
           (cases_lt count all);
       count_is = done.count_is;
@@ -135,23 +133,23 @@ bucket_page image pages F n bytes records i false old new count all trouble read
 
 -- ---- all pages
 
-all_weaker : (image : Image) (pages : ℕ) (F G : Type 0) (n : ℕ) (founds : List Found) → (F → G)
-    → AreFound image pages F n founds → AreFound image pages G n founds
-all_weaker image pages F G n [] more are = tt
-all_weaker image pages F G n (found ∷ rest) more are = (
-  found_weaker image pages F G n found.pairs found.trouble more are.0,
-  all_weaker image pages F G (n + 1) rest more are.1,
+all_weaker : (file : ℕ → List ℕ) (pages : ℕ) (F G : Type 0) (n : ℕ) (founds : List Found) → (F → G)
+    → AreFound file pages F n founds → AreFound file pages G n founds
+all_weaker file pages F G n [] more are = tt
+all_weaker file pages F G n (found ∷ rest) more are = (
+  found_weaker file pages F G n found.pairs found.trouble more are.0,
+  all_weaker file pages F G (n + 1) rest more are.1,
 )
 
-one_more : (image : Image) (pages : ℕ) (F : Type 0) (n m : ℕ) (founds : List Found)
-    (found : Found) → n + length founds ≡ m → AreFound image pages F n founds
-    → IsFound image pages F m found.pairs found.trouble
-    → AreFound image pages F n (founds ++ found ∷ [])
-one_more image pages F n m [] found place are is =
+one_more : (file : ℕ → List ℕ) (pages : ℕ) (F : Type 0) (n m : ℕ) (founds : List Found)
+    (found : Found) → n + length founds ≡ m → AreFound file pages F n founds
+    → IsFound file pages F m found.pairs found.trouble
+    → AreFound file pages F n (founds ++ found ∷ [])
+one_more file pages F n m [] found place are is =
     let same : m ≡ n = omega (arith, place) in
-    (subst (λ (k : ℕ). IsFound image pages F k found.pairs found.trouble) same is, tt)
-one_more image pages F n m (first ∷ rest) found place are is =
-    (are.0, one_more image pages F (n + 1) m rest found (omega (arith, place)) are.1 is)
+    (subst (λ (k : ℕ). IsFound file pages F k found.pairs found.trouble) same is, tt)
+one_more file pages F n m (first ∷ rest) found place are is =
+    (are.0, one_more file pages F (n + 1) m rest found (omega (arith, place)) are.1 is)
 
 told_more : (n m : ℕ) (founds : List Found) (found : Found) → n + length founds ≡ m
     → told_from n (founds ++ found ∷ []) ≡ told_from n founds ++ told_by m found.trouble
@@ -192,9 +190,9 @@ told_then (Some told) (Some mid) (Some now) xs ys one two =
     two ∙ ap (λ (t : List (ℕ × Trouble)). t ++ ys) one ∙ append_assoc told xs ys
 
 -- before the first page
-pub none_salvaged : (image : Image) (pages : ℕ) (F : Type 0) (old : Option (List ℕ))
-    (told : Option (List (ℕ × Trouble))) → AreSalvaged image pages F 1 old old told told 0 0
-none_salvaged image pages F old told = record {
+pub none_salvaged : (file : ℕ → List ℕ) (pages : ℕ) (F : Type 0) (old : Option (List ℕ))
+    (told : Option (List (ℕ × Trouble))) → AreSalvaged file pages F 1 old old told told 0 0
+none_salvaged file pages F old told = record {
   founds = [];
   are_found = tt;
   all = refl;
@@ -205,24 +203,24 @@ none_salvaged image pages F old told = record {
 }
 
 -- and one page more
-pub page_salvaged : (image : Image) (pages : ℕ) (F G H : Type 0) (n : ℕ)
+pub page_salvaged : (file : ℕ → List ℕ) (pages : ℕ) (F G H : Type 0) (n : ℕ)
     (old mid new : Option (List ℕ)) (told between now : Option (List (ℕ × Trouble)))
     (pairs troubles count one more_pairs more_troubles : ℕ) (trouble : Option Trouble) → 1 ≤ n
-    → (F → H) → (G → H) → AreSalvaged image pages F n old mid told between pairs troubles
-    → IsPageSalvaged image pages G n mid new count trouble
+    → (F → H) → (G → H) → AreSalvaged file pages F n old mid told between pairs troubles
+    → IsPageSalvaged file pages G n mid new count trouble
     → Tells between now (told_by n trouble) → one ≡ length (told_by n trouble)
     → more_pairs ≡ pairs + count → more_troubles ≡ troubles + one
-    → AreSalvaged image pages H (n + 1) old new told now more_pairs more_troubles
-page_salvaged image pages F G H n old mid new told between now pairs troubles count one more_pairs
+    → AreSalvaged file pages H (n + 1) old new told now more_pairs more_troubles
+page_salvaged file pages F G H n old mid new told between now pairs troubles count one more_pairs
     more_troubles trouble some first second all page told_is one_is more_is troubles_is =
     let found : Found = record { pairs = page.pairs; trouble = trouble } in
     let place : 1 + length all.founds ≡ n = omega (arith, all.all, some) in
     let told_all = told_more 1 n all.founds found place in
     record {
       founds = all.founds ++ found ∷ [];
-      are_found = one_more image pages H 1 n all.founds found place
-          (all_weaker image pages F H 1 all.founds first all.are_found)
-          (found_weaker image pages G H n page.pairs trouble second page.is_found);
+      are_found = one_more file pages H 1 n all.founds found place
+          (all_weaker file pages F H 1 all.founds first all.are_found)
+          (found_weaker file pages G H n page.pairs trouble second page.is_found);
       all = omega (arith, all.all, some, length-append all.founds (found ∷ []));
       written = lines_more all.founds found old mid new all.written page.written;
       told_is = subst (Tells told now) (sym told_all)
@@ -246,11 +244,11 @@ page_salvaged image pages F G H n old mid new told between now pairs troubles co
     }
 
 -- up to the last page
-pub pages_salvaged : (image : Image) (pages : ℕ) (F : Type 0) (n m : ℕ)
+pub pages_salvaged : (file : ℕ → List ℕ) (pages : ℕ) (F : Type 0) (n m : ℕ)
     (old new : Option (List ℕ)) (told now : Option (List (ℕ × Trouble))) (pairs troubles : ℕ)
-    → n - 1 ≡ m - 1 → AreSalvaged image pages F n old new told now pairs troubles
-    → AreSalvaged image pages F m old new told now pairs troubles
-pages_salvaged image pages F n m old new told now pairs troubles same all =
+    → n - 1 ≡ m - 1 → AreSalvaged file pages F n old new told now pairs troubles
+    → AreSalvaged file pages F m old new told now pairs troubles
+pages_salvaged file pages F n m old new told now pairs troubles same all =
     record {
       founds = all.founds;
       are_found = all.are_found;

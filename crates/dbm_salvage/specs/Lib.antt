@@ -1,3 +1,4 @@
+pub mod Images
 pub mod Reads
 pub mod Salvage
 pub mod Telling

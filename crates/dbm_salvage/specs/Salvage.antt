@@ -1,9 +1,8 @@
--- What a salvage finds in the pages of an image. Each page is looked at by itself.
+-- What a salvage finds in the pages of a file. Each page is looked at by itself.
 use Rattle.std.specs.Prelude.{◌≡◌, ◌≢◌, ◌⊎◌, ℕ, ◌+◌, ◌-◌, ◌<◌, Bool, true, false, nat_lt, if◌then◌else◌, List, [], ◌∷◌, ◌++◌, length, flat_map, Option, Some, None}
 use Rattle.std.specs.Option.{is_some, is_none}
 use Rattle.std.specs.List.{HoldsAt}
 use Rattle.std.specs.Io.KnownBytes.{Appends}
-use Rattle.sect_dev.specs.Device.{Image}
 use Rattle.dbm_model.specs.Pairs.{Pair}
 use Rattle.dbm_lines.specs.Dumps.{dump_line}
 use Rattle.page_model.specs.Bytes.{u32_at}
@@ -11,7 +10,6 @@ use Rattle.page_model.specs.Meaning.{records_on, said_by}
 use Rattle.page_model.specs.Pages.{Body, Record}
 use Rattle.page_model.specs.Reading.{own_number, body_of, IsClear}
 use Rattle.page_model.specs.Valid.{MaySay}
-use Rattle.page_io.specs.Page.{page_at}
 use Rattle.content_pages.specs.Contents.{IsContentAt}
 use Rattle.dbm_salvage.specs.Telling.{Tells}
 use Rattle.dbm_salvage.specs.declared.contents.NoContent.{NoContent}
@@ -20,12 +18,12 @@ use Rattle.dbm_salvage.specs.declared.trouble.Trouble.{Trouble}
 use Rattle.dbm_salvage.specs.declared.trouble.Trouble.TheVariants.{Unread, Blank, NoPage, Elsewhere, Content}
 
 -- page n of a file of so many pages, page 0 among them; there is none behind them
-abbrev pub file_page : Image → ℕ → ℕ → List ℕ
-file_page image pages n = if nat_lt n pages then page_at image n else []
+abbrev pub file_page : (ℕ → List ℕ) → ℕ → ℕ → List ℕ
+file_page file pages n = if nat_lt n pages then file n else []
 
 -- what its pages say
-abbrev pub said_in : Image → ℕ → ℕ → Body
-said_in image pages = said_by (file_page image pages)
+abbrev pub said_in : (ℕ → List ℕ) → ℕ → ℕ → Body
+said_in file pages = said_by (file_page file pages)
 
 -- the bytes read as page n: they are the spelling of what that page may say
 abbrev pub ReadsAs : ℕ → List ℕ → Type 0
@@ -88,51 +86,51 @@ pub record Found : Type 0 where
   pub trouble : Option Trouble
 
 -- the page reads as page n, and these are the pairs of its records
-pub record HasPairs (image : Image) (pages n : ℕ) (failed : Bool)
+pub record HasPairs (file : ℕ → List ℕ) (pages n : ℕ) (failed : Bool)
     (pairs : List (Option Pair)) : Type 0 where
-  pub reads : ReadsAs n (page_at image n)
+  pub reads : ReadsAs n (file n)
   pub pairs_are :
-      ArePairsOf (said_in image pages) failed (records_on (body_of n (page_at image n))) pairs
+      ArePairsOf (said_in file pages) failed (records_on (body_of n (file n))) pairs
 
 -- what is found of page n. `Faulted` is that the device failed
-abbrev pub IsFound : Image → ℕ → Type 0 → ℕ → List (Option Pair) → Option Trouble → Type 0
-IsFound image pages Faulted n pairs None =
-    HasPairs image pages n false pairs × (printed pairs ≡ length pairs)
-IsFound image pages Faulted n pairs (Some Content) =
-    HasPairs image pages n false pairs × (printed pairs < length pairs)
-IsFound image pages Faulted n pairs (Some Unread) =
-    Faulted × ((pairs ≡ []) ⊎ HasPairs image pages n true pairs)
-IsFound image pages Faulted n pairs (Some Blank) =
-    (pairs ≡ []) × IsNoPage n (page_at image n) Blank
-IsFound image pages Faulted n pairs (Some NoPage) =
-    (pairs ≡ []) × IsNoPage n (page_at image n) NoPage
-IsFound image pages Faulted n pairs (Some Elsewhere) =
-    (pairs ≡ []) × IsNoPage n (page_at image n) Elsewhere
+abbrev pub IsFound : (ℕ → List ℕ) → ℕ → Type 0 → ℕ → List (Option Pair) → Option Trouble → Type 0
+IsFound file pages Faulted n pairs None =
+    HasPairs file pages n false pairs × (printed pairs ≡ length pairs)
+IsFound file pages Faulted n pairs (Some Content) =
+    HasPairs file pages n false pairs × (printed pairs < length pairs)
+IsFound file pages Faulted n pairs (Some Unread) =
+    Faulted × ((pairs ≡ []) ⊎ HasPairs file pages n true pairs)
+IsFound file pages Faulted n pairs (Some Blank) =
+    (pairs ≡ []) × IsNoPage n (file n) Blank
+IsFound file pages Faulted n pairs (Some NoPage) =
+    (pairs ≡ []) × IsNoPage n (file n) NoPage
+IsFound file pages Faulted n pairs (Some Elsewhere) =
+    (pairs ≡ []) × IsNoPage n (file n) Elsewhere
 
 -- record i has this pair, or why it has none, and the line of its pair stands in the output
-pub record IsRecordSalvaged (image : Image) (pages : ℕ) (records : List Record) (i : ℕ)
+pub record IsRecordSalvaged (file : ℕ → List ℕ) (pages : ℕ) (records : List Record) (i : ℕ)
     (old new : Option (List ℕ)) (lost : Option NoContent) : Type 0 where
   pub pair : Option Pair
-  pub is : HoldsAt (λ r. IsPairOf (said_in image pages) (is_failed lost) r pair) records i
+  pub is : HoldsAt (λ r. IsPairOf (said_in file pages) (is_failed lost) r pair) records i
   pub told : is_some pair ≡ is_none lost
   pub written : Appends old new (line_of pair)
 
 -- the lines of the pairs that are found of page n stand in the output
-pub record IsPageSalvaged (image : Image) (pages : ℕ) (Faulted : Type 0) (n : ℕ)
+pub record IsPageSalvaged (file : ℕ → List ℕ) (pages : ℕ) (Faulted : Type 0) (n : ℕ)
     (old new : Option (List ℕ)) (count : ℕ) (trouble : Option Trouble) : Type 0 where
   pub pairs : List (Option Pair)
-  pub is_found : IsFound image pages Faulted n pairs trouble
+  pub is_found : IsFound file pages Faulted n pairs trouble
   pub count_is : count ≡ printed pairs
   pub written : Appends old new (flat_map line_of pairs)
 
 -- ---- all pages
 
 -- of each page from n on
-abbrev pub AreFound : Image → ℕ → Type 0 → ℕ → List Found → Type 0
-AreFound image pages Faulted n [] = Unit {0}
-AreFound image pages Faulted n (found ∷ rest) =
-    IsFound image pages Faulted n found.pairs found.trouble
-    × AreFound image pages Faulted (n + 1) rest
+abbrev pub AreFound : (ℕ → List ℕ) → ℕ → Type 0 → ℕ → List Found → Type 0
+AreFound file pages Faulted n [] = Unit {0}
+AreFound file pages Faulted n (found ∷ rest) =
+    IsFound file pages Faulted n found.pairs found.trouble
+    × AreFound file pages Faulted (n + 1) rest
 
 abbrev pub lines_of : Found → List ℕ
 lines_of found = flat_map line_of found.pairs
@@ -152,11 +150,11 @@ all_printed (found ∷ rest) = printed found.pairs + all_printed rest
 
 -- The pages 1 to n - 1 were salvaged: the lines of their pairs stand in the output, page by page,
 -- and of each page in trouble it was told.
-pub record AreSalvaged (image : Image) (pages : ℕ) (Faulted : Type 0) (n : ℕ)
+pub record AreSalvaged (file : ℕ → List ℕ) (pages : ℕ) (Faulted : Type 0) (n : ℕ)
     (old new : Option (List ℕ)) (told now_told : Option (List (ℕ × Trouble))) (pairs troubles : ℕ)
     : Type 0 where
   pub founds : List Found
-  pub are_found : AreFound image pages Faulted 1 founds
+  pub are_found : AreFound file pages Faulted 1 founds
   pub all : length founds ≡ n - 1
   pub written : Appends old new (flat_map lines_of founds)
   pub told_is : Tells told now_told (told_from 1 founds)

@@ -2,10 +2,12 @@
 #![tactic(auto)]
 
 mod contents;
+mod images;
 mod looks;
 mod records;
 mod salvage;
 mod trouble;
 
+pub use images::Images;
 pub use salvage::{Salvaged, salvage_engine};
 pub use trouble::{Trouble, Troubles, Unshown};

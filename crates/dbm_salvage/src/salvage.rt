@@ -2,17 +2,19 @@
 
 ghost use Rattle.std.specs.Prelude.{◌≡◌, ◌⊎◌, ◌*◌, ◌≤◌, ◌<◌, length, Some, IfOk, IfErr, IsErrOf, vec_capacity};
 ghost use Rattle.sect_dev.specs.Device.{MoreFaults};
+ghost use Rattle.dbm_salvage.specs.Images.{laid, AreOnDevice};
 ghost use Rattle.dbm_salvage.specs.Reads.{Looks};
 ghost use Rattle.dbm_salvage.specs.Salvage.{IsPageSalvaged, AreSalvaged, told_by};
 ghost use Rattle.dbm_salvage.specs.Telling.{Tells};
 ghost use Rattle.dbm_fault.specs.declared.engine_fault.EngineFault.TheVariants.{Memory, Write as WriteFault};
 
+use crate::images::{Images, read_laid};
 use crate::looks::look_at;
 use crate::records::{PageFound, salvage_records};
 use crate::trouble::{Trouble, Troubles};
 use dbm_fault::EngineFault;
 use dbm_progress::Progress;
-use page_io::{Page, read_page};
+use page_io::Page;
 use sect_dev::SectorDev;
 use std::alloc::Global;
 use std::io::Write;
@@ -32,29 +34,30 @@ pub struct Salvaged {
 /// Writes the lines of the pairs of page n.
 fn salvage_page<D: SectorDev, W: Write, P: Progress>(
     dev: &mut D,
+    places: &[u32],
     pages: u32,
     n: u32,
     content: &mut Vec<u8>,
     writer: &mut W,
     progress: &mut P,
 ) -> Result<PageFound, EngineFault>
-    requires fits { 4 * pages ≤ D.sectors dev.old }
+    requires fits { AreOnDevice places.now pages (D.sectors dev.old) }
     requires within { n < pages }
     requires room { 65535 ≤ vec_capacity content.old }
     ensures looks { Looks D.SectorDev dev.old dev.new }
     ensures capacity { vec_capacity content.old ≤ vec_capacity content.new }
     ensures page { D.honest dev.old
-        → IfOk result (λ found. IsPageSalvaged (D.seen dev.old) pages
+        → IfOk result (λ found. IsPageSalvaged (laid places.now (D.seen dev.old)) pages
         (MoreFaults (D.faults dev.old) (D.faults dev.new)) n
         (W.contents writer.old) (W.contents writer.new) found.printed found.trouble) }
     ensures only { IfErr result (λ e. e ≡ WriteFault) }
 {
     let mut page = Page::blank();
-    if read_page(dev, n, &mut page).is_err() {
+    if read_laid(dev, places, n, &mut page).is_err() {
         return Ok(in_trouble(Trouble::Unread));
     }
     match look_at(&page, n) {
-        Ok(true) => salvage_records(dev, pages, n, &page, content, writer, progress),
+        Ok(true) => salvage_records(dev, places, pages, n, &page, content, writer, progress),
         Ok(false) => Ok(PageFound {
             printed: 0,
             trouble: None,
@@ -94,7 +97,8 @@ fn in_trouble(trouble: Trouble) -> PageFound
 }
 
 /// Writes each pair of the pages 1 to `pages` - 1 as `key content` in a line, page by page and slot
-/// by slot, where the page reads as a bucket page of its own number. Of each page that reads as no
+/// by slot, where the page reads as a bucket page of its own number. A page over which a redo image
+/// lies is that image. Of each page that reads as no
 /// page of its number, and of each that has a far content that isn't whole, `troubles` is told. A
 /// page that the device fails to read is one of them, and the salvage goes on. The memory for the
 /// longest content is taken before a page is read. After `Write` some of the text may be out. Each
@@ -102,16 +106,18 @@ fn in_trouble(trouble: Trouble) -> PageFound
 pub fn salvage_engine<D: SectorDev, W: Write, T: Troubles, P: Progress>(
     alloc: Global,
     dev: &mut D,
+    images: &Images,
     pages: u32,
     writer: &mut W,
     troubles: &mut T,
     progress: &mut P,
 ) -> Result<Salvaged, EngineFault>
-    requires { 4 * pages ≤ D.sectors dev.old }
+    requires { AreOnDevice images.now.places.items pages (D.sectors dev.old) }
 
     // Whatever it answers, on any device.
     ensures looks { Looks D.SectorDev dev.old dev.new }
-    ensures salvaged { D.honest dev.old → IfOk result (λ all. AreSalvaged (D.seen dev.old) pages
+    ensures salvaged { D.honest dev.old → IfOk result (λ all. AreSalvaged
+        (laid images.now.places.items (D.seen dev.old)) pages
         (MoreFaults (D.faults dev.old) (D.faults dev.new)) pages
         (W.contents writer.old) (W.contents writer.new)
         (T.told troubles.old) (T.told troubles.new) all.pairs all.troubles) }
@@ -125,7 +131,15 @@ pub fn salvage_engine<D: SectorDev, W: Write, T: Troubles, P: Progress>(
         troubles: 0,
     };
     for n in 1..pages {
-        let found = salvage_page(dev, pages, n, &mut content, writer, progress)?;
+        let found = salvage_page(
+            dev,
+            images.places.as_slice(),
+            pages,
+            n,
+            &mut content,
+            writer,
+            progress,
+        )?;
         all.pairs += u64::from(found.printed);
         all.troubles += tell(troubles, progress, n, found.trouble);
     }

@@ -1,6 +1,6 @@
 //! What may be wrong with a page, and who is told of it.
 
-ghost use Rattle.std.specs.Prelude.{ℕ, List, Option, None, [], ◌∷◌};
+ghost use Rattle.std.specs.Prelude.{◌≡◌, ℕ, List, Option, None, [], ◌∷◌};
 ghost use Rattle.dbm_salvage.specs.Telling.{Tells};
 ghost use Rattle.dbm_salvage.specs.declared.trouble.Trouble.{Trouble};
 
@@ -28,6 +28,11 @@ pub trait Troubles {
     /// Something is wrong with this page.
     fn tell(&mut self, page: u32, trouble: Trouble)
         ensures { Tells (told self.old) (told self.new) ((page, trouble) ∷ []) };
+
+    /// So many redo images read as no page of the file, so that the pages which they were to be are
+    /// those from before the commit.
+    fn tell_lost(&mut self, images: u32)
+        ensures { told self.new ≡ told self.old };
 }
 
 /// Shows nothing of what it is told.
@@ -38,4 +43,6 @@ impl Troubles for Unshown {
     ghost told = { λ unshown. None };
 
     fn tell(&mut self, _page: u32, _trouble: Trouble) {}
+
+    fn tell_lost(&mut self, _images: u32) {}
 }

@@ -1,5 +1,6 @@
 // Salvages of a file that may be damaged.
-ghost use Rattle.std.specs.Prelude.{◌≡◌, ◌⊎◌, ◌*◌, ◌≤◌, Ok, Err};
+ghost use Rattle.std.specs.Prelude.{◌≡◌, ◌⊎◌, ◌+◌, ◌*◌, ◌≤◌, IfOk, Ok, Err};
+ghost use Rattle.dbm_salvage.specs.Images.{AreOnDevice};
 ghost use Rattle.dbm_tool.specs.Endings.{EndsAs};
 
 use crate::EngineFault;
@@ -10,7 +11,7 @@ use dbm_command_line::Plan;
 use dbm_commands::{Failure, Outcome};
 use dbm_file::{Fault, Refusal, open_path};
 use dbm_progress::Progress;
-use dbm_salvage::{Salvaged, Trouble, Troubles, salvage_engine};
+use dbm_salvage::{Images, Salvaged, Trouble, Troubles, salvage_engine};
 use redo_area::{Header, read_header};
 use sect_dev::{FileDev, FileFault, SectorDev};
 use std::alloc::Global;
@@ -43,6 +44,13 @@ impl<W: Write> Troubles for Told<W> {
     fn tell(&mut self, page: u32, trouble: Trouble) {
         let _ = writeln!(self.faults, "dbmtool: page {page}: {}", words_of(trouble));
     }
+
+    fn tell_lost(&mut self, images: u32) {
+        let _ = writeln!(
+            self.faults,
+            "dbmtool: {images} pages of the last commit do not read: their pairs are those from before it"
+        );
+    }
 }
 
 /// What is wrong with a page, in words.
@@ -67,40 +75,97 @@ pub fn salvage<T: Files<File = File> + Clock, O: Write, S: Troubles, P: Progress
     ensures { EndsAs (Plan.Salvage file.entry) result }
 {
     let (mut dev, length) = device_of(host, file)?;
-    let pages = pages_in(&mut dev, length);
-    let done = salvage_engine(host.alloc, &mut dev, pages, output, troubles, progress);
+    let found = layout_of(&mut dev, length);
+    let images = images_of(host.alloc, &mut dev, &found)?;
+    if images.lost > 0 {
+        troubles.tell_lost(images.lost);
+    }
+    let done = salvage_engine(
+        host.alloc,
+        &mut dev,
+        &images,
+        found.pages,
+        output,
+        troubles,
+        progress,
+    );
     let flushed = output.flush();
     let salvaged = done?;
     flushed.map_err(unwritten)?;
-    verdict(salvaged)
+    verdict(salvaged, images.lost)
 }
 
-/// Whether each page was read.
-fn verdict(salvaged: Salvaged) -> Result<Outcome, Failure>
-    ensures { (result ≡ Ok Outcome.Done)
+/// Whether each page was read, and each redo image.
+fn verdict(salvaged: Salvaged, lost: u32) -> Result<Outcome, Failure>
+    ensures done { result ≡ Ok Outcome.Done → (salvaged.troubles ≡ 0) × (lost ≡ 0) }
+    ensures only { (result ≡ Ok Outcome.Done)
         ⊎ (result ≡ Err (Failure.Fault (EngineFault.Db Fault.Damaged))) }
 {
-    if salvaged.troubles == 0 {
+    if salvaged.troubles == 0 && lost == 0 {
         Ok(Outcome::Done)
     } else {
         Err(Failure::from(Fault::Damaged))
     }
 }
 
-/// How many pages the file has: those in front of its end, where the commit sector says one, and
-/// else as many as go into its bytes.
-fn pages_in(dev: &mut FileDev, length: u64) -> u32
-    ensures { 4 * result ≤ ⟦<FileDev as SectorDev>⟧.sectors dev.new }
+/// Where the pages of a file stand.
+struct Layout {
+    /// How many pages the file has, page 0 among them.
+    pages: u32,
+    /// The page of the first redo image.
+    start: u32,
+    /// How many redo images there are: those of a commit that a stop cut short.
+    count: u32,
+}
+
+/// The layout of a file: what its commit sector says, and else as many pages as go into its bytes.
+fn layout_of(dev: &mut FileDev, length: u64) -> Layout
+    ensures behind { result.pages ≤ result.start }
+    ensures within { 4 * (result.start + result.count)
+        ≤ ⟦<FileDev as SectorDev>⟧.sectors dev.new }
 {
     let capacity = dev.capacity() / 4;
     let mut content = [0; 512];
     let is_read = capacity > 0 && dev.read(0, &mut content).is_ok();
     match read_header(capacity, &content) {
-        Header::Clear { end } | Header::Armed { end, .. } if is_read => end,
-        _ => u32::try_from(length.div_ceil(PAGE))
-            .unwrap_or(capacity)
-            .min(capacity),
+        Header::Clear { end } if is_read => at_home(end),
+        Header::Armed { end, start, count } if is_read => Layout {
+            pages: end,
+            start,
+            count,
+        },
+        _ => at_home(pages_of(length).min(capacity)),
     }
+}
+
+/// The layout of a file of so many pages with no redo image.
+fn at_home(pages: u32) -> Layout
+    ensures { (result.pages ≡ pages) × (result.start ≡ pages) × (result.count ≡ 0) }
+{
+    Layout {
+        pages,
+        start: pages,
+        count: 0,
+    }
+}
+
+/// Into how many pages so many bytes go, up to the greatest number.
+fn pages_of(length: u64) -> u32 {
+    u32::try_from(length.div_ceil(PAGE)).unwrap_or(u32::MAX)
+}
+
+/// The redo images of a file.
+fn images_of(alloc: Global, dev: &mut FileDev, found: &Layout) -> Result<Images, Fault>
+    requires behind { found.now.pages ≤ found.now.start }
+    requires within { 4 * (found.now.start + found.now.count)
+        ≤ ⟦<FileDev as SectorDev>⟧.sectors dev.old }
+    ensures { IfOk result (λ images. AreOnDevice images.places.items found.now.pages
+        (⟦<FileDev as SectorDev>⟧.sectors dev.new)) }
+{
+    if found.count == 0 {
+        return Ok(Images::none(alloc));
+    }
+    Images::of(alloc, dev, found.pages, found.start, found.count).map_err(|_| Fault::Memory)
 }
 
 /// The file, opened for reading, and how many bytes it has.

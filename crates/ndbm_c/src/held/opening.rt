@@ -51,7 +51,7 @@ impl Open {
         let Some(dev) = self.take_device() else {
             return refusal(Fault::Broken);
         };
-        match Db::open(alloc, dev, how) {
+        match Db::open_again(alloc, dev, how) {
             Ok(db) => {
                 *self = Open::Database(Opened {
                     db,

@@ -6,14 +6,14 @@ use Rattle.dbm_file.proofs.EnoughRoom.{file_has_room}
 use Rattle.dbm_file.proofs.OpenedFiles.{refuses_file}
 use Rattle.dbm_file.proofs.named.open_named.Goals as goal
 
-pub returns-in-Ok-open-clause-opens : goal.returns-in-Ok-open-clause-opens
-returns-in-Ok-open-clause-opens g c = record {
+pub returns-in-Ok-open_again-clause-opens : goal.returns-in-Ok-open_again-clause-opens
+returns-in-Ok-open_again-clause-opens g c = record {
   first = c.in-Ok-open_path.dev;
   begins = c.in-Ok-open_path.ensures.begins;
   size = c.in-Ok-open_path.ensures.size;
-  stands = λ honest one stand. c.in-Ok-open.ensures.stands honest one stand;
-  opened = λ honest. c.in-Ok-open.ensures.opened honest;
-  any_moment = λ honest. c.in-Ok-open.ensures.any_moment honest;
+  stands = λ honest one stand. c.in-Ok-open_again.ensures.stands honest one stand;
+  opened = λ honest. c.in-Ok-open_again.ensures.opened honest;
+  any_moment = λ honest. c.in-Ok-open_again.ensures.any_moment honest;
 }
 
 pub returns-in-Err-Missing-clause-missing : goal.returns-in-Err-Missing-clause-missing
@@ -37,11 +37,11 @@ returns-in-Ok-open_path-clause-told g c device =
     c.refused_by.ensures.system
     (omega (arith, c.in-Err.ensures.device (sym c.refused_by.ensures.fault ∙ device)))
 
-pub returns-in-Ok-open-clause-room : goal.returns-in-Ok-open-clause-room
-returns-in-Ok-open-clause-room g c =
-    let db = c.in-Ok-open.db in
-    file_has_room db db.valid (c.in-Ok-open.ensures.fresh.capacity
+pub returns-in-Ok-open_again-clause-room : goal.returns-in-Ok-open_again-clause-room
+returns-in-Ok-open_again-clause-room g c =
+    let db = c.in-Ok-open_again.db in
+    file_has_room db db.valid (c.in-Ok-open_again.ensures.fresh.capacity
     ∙ ap (λ (n : ℕ). n / 4) c.in-Ok-open_path.ensures.size)
 
-pub returns-in-Ok-open-clause-fresh : goal.returns-in-Ok-open-clause-fresh
-returns-in-Ok-open-clause-fresh g c = search rules
+pub returns-in-Ok-open_again-clause-fresh : goal.returns-in-Ok-open_again-clause-fresh
+returns-in-Ok-open_again-clause-fresh g c = search rules
