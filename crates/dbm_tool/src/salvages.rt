@@ -1,6 +1,8 @@
 // Salvages of a file that may be damaged.
-ghost use Rattle.std.specs.Prelude.{◌≡◌, ◌⊎◌, ◌+◌, ◌*◌, ◌≤◌, IfOk, Ok, Err};
+ghost use Rattle.std.specs.Prelude.{◌≡◌, ◌⊎◌, ◌+◌, ◌*◌, ◌≤◌, ℕ, IfOk, Ok, Err};
 ghost use Rattle.dbm_salvage.specs.Images.{AreOnDevice};
+ghost use Rattle.redo_area.specs.Header.{IsInRange};
+ghost use Rattle.redo_area.specs.declared.header.Header.TheVariants.{Clear, Armed};
 ghost use Rattle.dbm_tool.specs.Endings.{EndsAs};
 
 use crate::EngineFault;
@@ -48,7 +50,7 @@ impl<W: Write> Troubles for Told<W> {
     fn tell_lost(&mut self, images: u32) {
         let _ = writeln!(
             self.faults,
-            "dbmtool: {images} pages of the last commit do not read: their pairs are those from before it"
+            "dbmtool: redo images that read as no page: {images}; as many pages are printed as they were before the last commit"
         );
     }
 }
@@ -125,16 +127,32 @@ fn layout_of(dev: &mut FileDev, length: u64) -> Layout
         ≤ ⟦<FileDev as SectorDev>⟧.sectors dev.new }
 {
     let capacity = dev.capacity() / 4;
+    let all = pages_of(length).min(capacity);
     let mut content = [0; 512];
-    let is_read = capacity > 0 && dev.read(0, &mut content).is_ok();
-    match read_header(capacity, &content) {
-        Header::Clear { end } if is_read => at_home(end),
-        Header::Armed { end, start, count } if is_read => Layout {
+    if capacity == 0 || dev.read(0, &mut content).is_err() {
+        return at_home(all);
+    }
+    layout_by(capacity, read_header(capacity, &content), all)
+}
+
+/// The layout by a commit sector, or of so many pages where that says none.
+fn layout_by(capacity: u32, header: Header, all: u32) -> Layout
+    requires header { IsInRange capacity header }
+    requires all { all ≤ capacity }
+    ensures behind { result.pages ≤ result.start }
+    ensures within { result.start + result.count ≤ capacity }
+    ensures armed { (end : ℕ) (start : ℕ) (count : ℕ) → header ≡ Armed end start count
+        → (result.pages ≡ end) × (result.start ≡ start) × (result.count ≡ count) }
+    ensures clear { (end : ℕ) → header ≡ Clear end → (result.pages ≡ end) × (result.count ≡ 0) }
+{
+    match header {
+        Header::Clear { end } => at_home(end),
+        Header::Armed { end, start, count } => Layout {
             pages: end,
             start,
             count,
         },
-        _ => at_home(pages_of(length).min(capacity)),
+        Header::Blank | Header::NotOurs | Header::Damaged => at_home(all),
     }
 }
 
