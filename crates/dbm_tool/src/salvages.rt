@@ -78,7 +78,7 @@ pub fn salvage<T: Files<File = File> + Clock, O: Write, S: Troubles, P: Progress
 {
     let (mut dev, length) = device_of(host, file)?;
     let found = layout_of(&mut dev, length);
-    let images = images_of(host.alloc, &mut dev, &found)?;
+    let images = images_of(host.alloc, &mut dev, found)?;
     if images.lost > 0 {
         troubles.tell_lost(images.lost);
     }
@@ -111,6 +111,7 @@ fn verdict(salvaged: Salvaged, lost: u32) -> Result<Outcome, Failure>
 }
 
 /// Where the pages of a file stand.
+#[derive(Clone, Copy)]
 struct Layout {
     /// How many pages the file has, page 0 among them.
     pages: u32,
@@ -173,11 +174,11 @@ fn pages_of(length: u64) -> u32 {
 }
 
 /// The redo images of a file.
-fn images_of(alloc: Global, dev: &mut FileDev, found: &Layout) -> Result<Images, Fault>
-    requires behind { found.now.pages ≤ found.now.start }
-    requires within { 4 * (found.now.start + found.now.count)
+fn images_of(alloc: Global, dev: &mut FileDev, found: Layout) -> Result<Images, Fault>
+    requires behind { found.pages ≤ found.start }
+    requires within { 4 * (found.start + found.count)
         ≤ ⟦<FileDev as SectorDev>⟧.sectors dev.old }
-    ensures { IfOk result (λ images. AreOnDevice images.places.items found.now.pages
+    ensures { IfOk result (λ images. AreOnDevice images.places.items found.pages
         (⟦<FileDev as SectorDev>⟧.sectors dev.new)) }
 {
     if found.count == 0 {
