@@ -1,6 +1,6 @@
 #!/usr/bin/env bash
 # docs/ndbm.3: its program compiles as it stands there and prints what the page says; the page names each function of the header,
-# and tells of the faults what the crate's texts say. The program of README.md compiles and runs as it stands there, too.
+# and tells of the faults what the crate's texts say. The program of docs/LIBRARY.md compiles and runs as it stands there, too.
 . "$(dirname "$0")/common"
 has_library
 page=$top/docs/ndbm.3
@@ -62,10 +62,10 @@ printf '626c7565 01000000\n726564 02000000\n' | diff - dumped || wrong "the comm
 "$program" store words 677265656e 03000000 -x || wrong "the command line can't store"
 [ "$(./program green | grep '^green')" = 'green 4' ] || wrong "the page's program doesn't read what the command line wrote"
 
-# the program of README.md
-sed -n '/^## From C/,/^It is compiled/s/^    //p' "$top/README.md" > hello.c
-[ "$(wc -l < hello.c)" -ge 10 ] || wrong "the program of README.md is read wrong"
+# the program of docs/LIBRARY.md
+sed -n '/^## A first program/,/^It is compiled/s/^    //p' "$top/docs/LIBRARY.md" > hello.c
+[ "$(wc -l < hello.c)" -ge 10 ] || wrong "the program of docs/LIBRARY.md is read wrong"
 cc -std=c11 -Wall -Wextra -Wpedantic -Werror -I"$top/c" hello.c "$library/libndbm.a" -o hello || exit 1
-[ "$(./hello)" = alice ] && [ "$(./hello)" = alice ] || wrong "the program of README.md doesn't print the content"
-[ "$("$program" dump --text aliases)" = $'abuse\talice' ] || wrong "the command line reads another pair than README.md's program stored"
+[ "$(./hello)" = alice ] && [ "$(./hello)" = alice ] || wrong "the program of docs/LIBRARY.md doesn't print the content"
+[ "$("$program" dump --text aliases)" = $'abuse\talice' ] || wrong "the command line reads another pair than the program of docs/LIBRARY.md stored"
 [ "$bad" = 0 ]

@@ -1,6 +1,7 @@
 #!/usr/bin/env bash
 # The manual page and the completions name the commands and options that the help names, each command's its own, and no other. What is
-# installed runs, and all of it is taken away again.
+# installed runs, and all of it is taken away again. Links and names of checks in the documents lead to files, and the lines of definitions
+# that docs/PROOFS.md tells are those that tools/spec_path prints.
 . "$(dirname "$0")/common"
 page=$top/docs/dbmtool.1
 
@@ -89,6 +90,30 @@ else
   echo "mandoc isn't installed: the manual page wasn't looked at by it"
 fi
 if command -v zsh > /dev/null; then zsh -n "$zsh" || wrong "zsh can't read its completion"; fi
+
+# each link of a document leads to a file, or to a heading of one, and each check that it names is there
+heading() { tr 'A-Z ' 'a-z-' <<< "$1" | tr -cd 'a-z0-9_\n-'; }
+documents=("$top"/*.md "$top"/docs/*.md "$top"/bench/*.md "$top"/crates/*/README.md)
+for text in "${documents[@]}"; do
+  folder=$(dirname "$text")
+  while IFS='#' read -r file anchor; do
+    [ -e "$folder/$file" ] || wrong "$text: no file '$file'"
+    [ -n "$anchor" ] || continue
+    heading "$(sed -n 's/^##* //p' "${file:+$folder/}${file:-$text}")" | grep -qx -- "$anchor" || wrong "$text: no heading '$anchor'"
+  done < <(sed 's/`[^`]*`//g' "$text" | grep -oE '\]\([^) ]+\)' | sed 's/^](//; s/)$//' | grep -v '^http')
+  for check in $(grep -oE '\btests/[a-z_]+\.(sh|c|h)' "$text" | sort -u); do
+    [ -e "$top/$check" ] || wrong "$text: no check '$check'"
+  done
+done
+[ "${#documents[@]}" -ge 40 ] || wrong "the documents are read wrong"
+
+# what docs/PROOFS.md tells of the definitions that a reader has to believe
+tr '\n' ' ' < "$top/docs/PROOFS.md" | grep -oE '`tools/spec_path [a-z_]+ [a-z_]+` prints [0-9]+ files, [0-9,]+ lines' > paths
+[ "$(wc -l < paths)" -ge 2 ] || wrong "the paths of docs/PROOFS.md are read wrong"
+while read -r _ crate function _ count; do
+  found=$("$top/tools/spec_path" --count "$crate" "${function%\`}") || wrong "tools/spec_path $crate ${function%\`} fails"
+  [ "$found" = "$count" ] || wrong "docs/PROOFS.md tells $count of $crate, and not $found"
+done < paths
 
 # installed, run and taken away
 prefix=$work/usr

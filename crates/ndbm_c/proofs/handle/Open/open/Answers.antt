@@ -26,8 +26,8 @@ returns-in-Err c =
     refused_so c.args.how c.args.self.now c.in-Some.dev c.in-Err.dev c.in-Err.fault _
     (is_device c.args.self.now c.in-Some.dev (sym c.in-Some.ensures.taken))
     (same_number refusal.result refusal.type_inv ∙ refusal.ensures) record {
-      early = early_so c.in-Err.dev c.in-Some.dev c.in-Err.fault _ c.open.result
-          c.open.ensures.early c.in-Err.is;
+      early = early_so c.in-Err.dev c.in-Some.dev c.in-Err.fault _ c.open_again.result
+          c.open_again.ensures.early c.in-Err.is;
       refused = λ none other. told.refused tt none other;
       allowed = λ none stand allow. told.opens tt none stand allow;
       device = told.device;
