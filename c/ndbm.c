@@ -8,6 +8,7 @@
 #include <stdalign.h>
 #include <stdlib.h>
 #include <string.h>
+#include <unistd.h>
 
 #include "parts.h"
 
@@ -17,7 +18,12 @@ enum { LIMIT = 1000000, MOST_PAGES = 65536, GROUP_PAIRS = 8192, GROUP_BYTES = 1 
  * need not have memory for the rest of it. */
 struct ndbm_database {
     struct served served;
-    bool writable;
+    struct owner owner;
+    bool writable, is_locked;
+    /* the descriptor that dbm_dirfno gives where the file is locked, or -1 before its first call, and what it tells of the file, which
+     * is as it was before an opening for writing wrote to it */
+    int stand_in;
+    struct stat file;
     /* what was given last by dbm_firstkey or dbm_nextkey, and by dbm_fetch */
     alignas(max_align_t) unsigned char key[KEY_ROOM];
     alignas(max_align_t) unsigned char content[CONTENT_ROOM];
@@ -26,6 +32,11 @@ struct ndbm_database {
 static int misuse(void) {
     errno = EINVAL;
     return -1;
+}
+
+/* Whether there is a database, and this process opened it. In a child that fork made it isn't the child's. */
+static bool is_own(const DBM *db) {
+    return db && ndbm_owner_is_here(&db->owner);
 }
 
 static bool is_datum(datum it) {
@@ -47,11 +58,11 @@ static int fault_of(int error, int flags) {
 /* the number of the fault, or 0; errno says the same */
 static int open_database(DBM *db, const char *file, int flags, mode_t mode, const dbmx_how *how) {
     size_t length = strlen(file);
-    char *path = malloc(length + sizeof ".db");
+    char *path = malloc(length + sizeof DBM_SUFFIX);
     if (!path) return MEMORY;
     memcpy(path, file, length);
-    memcpy(path + length, ".db", sizeof ".db");
-    int fd = ndbm_file_open(path, flags, mode, how), error = errno;
+    memcpy(path + length, DBM_SUFFIX, sizeof DBM_SUFFIX);
+    int fd = ndbm_file_open(path, flags, mode, how, &db->file), error = errno;
     free(path);
     errno = error;
     if (fd < 0) return fault_of(error, flags);
@@ -63,6 +74,8 @@ static int open_database(DBM *db, const char *file, int flags, mode_t mode, cons
                         .limit = how->limit ? how->limit : LIMIT,
                         .kept_pages = how->options & DBMX_PAGES ? how->pages : 0};
     db->writable = asked.writable;
+    db->is_locked = !(how->options & DBMX_UNLOCKED);
+    db->stand_in = -1;
     return ndbm_served_open(&db->served, fd, &asked);
 }
 
@@ -73,7 +86,7 @@ static bool is_how(const dbmx_how *how) {
 }
 
 static DBM *opened(const char *file, int flags, mode_t mode, const dbmx_how *how, int *fault) {
-    static const dbmx_how plain = {0, 0, 0, 0};
+    const dbmx_how plain = {.wait = how ? 0 : ndbm_file_wait()};
     static const int known = O_ACCMODE | O_CREAT | O_EXCL | O_TRUNC | O_APPEND | O_CLOEXEC | O_LARGEFILE | O_NOFOLLOW | O_SYNC |
                              O_DSYNC | O_NONBLOCK | O_NOCTTY | O_NOATIME;
     if (!how) how = &plain;
@@ -86,6 +99,7 @@ static DBM *opened(const char *file, int flags, mode_t mode, const dbmx_how *how
     DBM *db = malloc(sizeof *db);
     *fault = db ? open_database(db, file, flags, mode, how) : MEMORY;
     if (!*fault) {
+        ndbm_owner_begins(&db->owner);
         errno = before;
         return db;
     }
@@ -110,7 +124,15 @@ void dbm_close(DBM *db) {
         misuse();
         return;
     }
-    ndbm_served_close(&db->served);
+    int before = errno;
+    if (db->stand_in >= 0) close(db->stand_in);
+    errno = before;
+    if (is_own(db)) {
+        ndbm_served_close(&db->served);
+    } else {
+        ndbm_served_leave(&db->served);
+    }
+    ndbm_owner_ends(&db->owner);
     int error = errno;
     free(db);
     errno = error;
@@ -143,7 +165,7 @@ static int32_t fetch_apart(struct served *served, datum key, unsigned char *cont
 
 datum dbm_fetch(DBM *db, datum key) {
     size_t length = 0;
-    if (!db || !is_datum(key)) return given(misuse(), NULL, 0);
+    if (!is_own(db) || !is_datum(key)) return given(misuse(), NULL, 0);
     if (!ndbm_served_begins(&db->served, OF_PAIR)) return given(-1, NULL, 0);
     int32_t status = fetch_apart(&db->served, key, db->content, &length);
     return given(ndbm_served_ends(&db->served, status), db->content, length);
@@ -153,7 +175,7 @@ datum dbm_fetch(DBM *db, datum key) {
 static datum next_of_pass(DBM *db, int32_t (*export)(struct handle *, unsigned char *, size_t *)) {
     size_t length = 0;
     int32_t status;
-    if (!db) return given(misuse(), NULL, 0);
+    if (!is_own(db)) return given(misuse(), NULL, 0);
     if (!ndbm_served_begins(&db->served, OF_FILE)) return given(-1, NULL, 0);
     do {
         status = export(&db->served.handle, db->key, &length);
@@ -182,13 +204,13 @@ static int store(DBM *db, datum key, datum content, bool replace) {
 }
 
 int dbm_store(DBM *db, datum key, datum content, int store_mode) {
-    if (!db || (store_mode != DBM_INSERT && store_mode != DBM_REPLACE)) return misuse();
+    if (!is_own(db) || (store_mode != DBM_INSERT && store_mode != DBM_REPLACE)) return misuse();
     return store(db, key, content, store_mode == DBM_REPLACE);
 }
 
 int dbm_delete(DBM *db, datum key) {
     int32_t status;
-    if (!db || !is_datum(key)) return misuse();
+    if (!is_own(db) || !is_datum(key)) return misuse();
     if (!ndbm_served_begins(&db->served, OF_PAIR)) return -1;
     do {
         status = ndbm_c_delete(&db->served.handle, bytes_of(key), key.dsize);
@@ -199,29 +221,35 @@ int dbm_delete(DBM *db, datum key) {
 }
 
 int dbm_error(DBM *db) {
-    return db ? ndbm_served_error(&db->served) : misuse();
+    return is_own(db) ? ndbm_served_error(&db->served) : misuse();
 }
 
 int dbm_clearerr(DBM *db) {
-    return db ? ndbm_served_clearerr(&db->served) : misuse();
+    return is_own(db) ? ndbm_served_clearerr(&db->served) : misuse();
 }
 
 int dbm_pagfno(DBM *db) {
-    return db ? db->served.fd : misuse();
+    return is_own(db) ? db->served.fd : misuse();
 }
 
+/* Of a file that the library doesn't lock it is the file's descriptor. */
 int dbm_dirfno(DBM *db) {
-    return db ? db->served.fd : misuse();
+    if (!is_own(db)) return misuse();
+    if (!db->is_locked) return db->served.fd;
+    int before = errno;
+    if (db->stand_in < 0) db->stand_in = ndbm_file_stand_in(&db->file);
+    if (db->stand_in >= 0) errno = before;
+    return db->stand_in;
 }
 
 int dbm_rdonly(DBM *db) {
-    return db ? !db->writable : misuse();
+    return is_own(db) ? !db->writable : misuse();
 }
 
 /* a call by an export that has no arguments: its number, or -1 */
 static int call(DBM *db, int32_t (*export)(struct handle *)) {
     int32_t status;
-    if (!db) return misuse();
+    if (!is_own(db)) return misuse();
     if (!ndbm_served_begins(&db->served, OF_FILE)) return -1;
     do {
         status = export(&db->served.handle);
@@ -320,7 +348,7 @@ int dbmx_store_many(DBM *db, const dbmx_pair *pairs, size_t count, size_t *store
     size_t done = 0;
     int status = 0;
     if (stored) *stored = 0;
-    if (!db || (!pairs && count)) return misuse();
+    if (!is_own(db) || (!pairs && count)) return misuse();
     while (!status && done < count) status = store_some(db, pairs + done, count - done, &done);
     if (stored) *stored = done;
     return status ? -1 : 0;
@@ -328,7 +356,7 @@ int dbmx_store_many(DBM *db, const dbmx_pair *pairs, size_t count, size_t *store
 
 int dbmx_stat(DBM *db, dbmx_numbers *numbers) {
     int32_t status;
-    if (!db || !numbers) return misuse();
+    if (!is_own(db) || !numbers) return misuse();
     if (!ndbm_served_begins(&db->served, OF_FILE)) return -1;
     do {
         status = ndbm_c_stat(&db->served.handle, numbers);
@@ -350,7 +378,8 @@ int dbmx_upgrade(DBM *db) {
 
 const char *dbmx_error_text(int fault) {
     static const char *const texts[] = {
-        "no fault", "out of memory", "the device failed", "a change is in doubt",
+        "no fault", "out of memory",
+        "the system failed to read, write, sync or open the file, or another program has it open", "a change is in doubt",
         "opened for reading only", "the pair is too long", "the database is full", "no pass was begun",
         "no room in the file", "the file is damaged", "not a database", "unknown version",
         "the device is too small", "the limit is out of range", "no such database", "the database exists",

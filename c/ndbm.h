@@ -3,7 +3,9 @@
  *
  * A program has to uphold this:
  * - One thread at a time calls with a DBM. Threads may call at once with one each.
- * - A DBM isn't used after dbm_close, nor in a child that fork made, nor from a signal handler.
+ * - A DBM isn't used after dbm_close, nor from a signal handler.
+ * - A child that fork made has no use of a DBM of its parent but to close it. There dbm_close gives memory and descriptors back,
+ *   and writes nothing, and every other call fails with EINVAL.
  * - A DBM comes from dbm_open or dbmx_open, and dsize bytes may be read at each dptr.
  * - The bytes at the dptr of an answer are read only. Those of a content stay until the next dbm_fetch with its DBM, and those
  *   of a key until the next dbm_firstkey or dbm_nextkey. Neither stay after dbm_close, and every other call leaves both. */
@@ -13,6 +15,12 @@
 #include <stddef.h>
 #include <stdint.h>
 #include <sys/types.h>
+
+/* the version of the library, as text and in parts */
+#define KUMQUATFEN_NDBM_VERSION "0.1.0"
+#define KUMQUATFEN_NDBM_MAJOR 0
+#define KUMQUATFEN_NDBM_MINOR 1
+#define KUMQUATFEN_NDBM_PATCH 0
 
 #ifdef __cplusplus
 extern "C" {
@@ -31,9 +39,14 @@ typedef struct ndbm_database DBM;
 #define DBM_INSERT 0
 #define DBM_REPLACE 1
 
+/* what the name of a database's file has behind the name that dbm_open is given */
+#define DBM_SUFFIX ".db"
+
 /* Where a call fails, it answers -1 or a null pointer, and errno says why. A call that succeeds leaves errno as it was. */
 
-/* opens the database in the file `file`.db; mode is that of a file that is made, which is of version 2 of the file format */
+/* Opens the database in the file `file`.db; mode is that of a file that is made, which is of version 2 of the file format. Where
+ * another opening has the file it is tried again for 5 seconds, or for those of KUMQUATFEN_WAIT in the environment, 0 to 86400, and
+ * then fails with EAGAIN. */
 DBM *dbm_open(const char *file, int flags, mode_t mode);
 void dbm_close(DBM *db);
 /* 0, or 1 where DBM_INSERT finds the key */
@@ -49,8 +62,11 @@ datum dbm_nextkey(DBM *db);
 int dbm_error(DBM *db);
 int dbm_clearerr(DBM *db);
 
-/* the file's descriptor, the same from both */
+/* The file's descriptor, which has the lock. It is for fstat and the like. To lock it or to unlock it changes or ends the lock. */
 int dbm_pagfno(DBM *db);
+/* The descriptor of an empty file that has no name, for programs that lock it around their calls: any lock of it is had at once, keeps
+ * nobody out, and leaves that of the database. It has the mode and the times that the database's file had when it was opened. With
+ * DBMX_UNLOCKED it is the file's descriptor. */
 int dbm_dirfno(DBM *db);
 /* 1 where the database was opened for reading, else 0 */
 int dbm_rdonly(DBM *db);
@@ -69,7 +85,7 @@ int dbm_rdonly(DBM *db);
 /* an option of dbmx_how: its member pages is looked at, which programs that were compiled over older versions of this file lack */
 #define DBMX_PAGES 4u
 
-/* how a database is opened; all members 0: as dbm_open does */
+/* how a database is opened; all members 0: as dbm_open does, but no lock is waited for */
 typedef struct {
     /* the most pairs of a database that is made or emptied, 1 to 1000000; 0: 1000000 */
     unsigned limit;
@@ -95,7 +111,7 @@ typedef struct {
     uint32_t pages, free;
 } dbmx_numbers;
 
-/* as dbm_open; how may be null, and fault too, which else gets the number of the fault, or 0 */
+/* as dbm_open where how is null; fault may be null, and else gets the number of the fault, or 0 */
 DBM *dbmx_open(const char *file, int flags, mode_t mode, const dbmx_how *how, int *fault);
 /* puts the pages of the last commit in their places in the file; what was stored is on the disk without it */
 int dbmx_sync(DBM *db);

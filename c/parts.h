@@ -4,6 +4,7 @@
 
 #include <stdbool.h>
 #include <stdint.h>
+#include <sys/stat.h>
 
 #include "ndbm.h"
 
@@ -88,7 +89,8 @@ enum reading { OF_PAIR, OF_GROUP, OF_FILE };
 struct served {
     struct handle handle;
     int fd;
-    /* whether the system refused a write or a sync of the file; the handle is then only dropped */
+    /* whether a change was cut short, since the system refused a write or a sync of the file, or there was no memory to list one;
+     * the handle is then only dropped */
     bool is_dead;
     /* the first fault, where the crate has none, or 0 */
     int fault;
@@ -110,6 +112,8 @@ struct served {
 int ndbm_served_open(struct served *, int fd, const struct how *how);
 /* Closes it, and its descriptor. errno says where that failed, and else is as it was. */
 void ndbm_served_close(struct served *);
+/* Gives back the memory and the descriptor that a child of the process which opened it has. Nothing is written, and errno stays. */
+void ndbm_served_leave(struct served *);
 /* whether a call that reads this may begin; where it may not, errno says why */
 bool ndbm_served_begins(struct served *, enum reading);
 /* Whether an export that answered this status is made again: it lacked a sector, which it has now. */
@@ -125,7 +129,27 @@ int ndbm_served_clearerr(struct served *);
 /* whether the flags ask for writing */
 bool ndbm_file_is_written(int flags);
 
-/* The descriptor of the file, opened, or made, and locked; -1 with errno where that was refused. */
-int ndbm_file_open(const char *path, int flags, mode_t mode, const dbmx_how *how);
+/* The descriptor of the file, opened, or made, and locked, and what fstat told of it; -1 with errno where that was refused. */
+int ndbm_file_open(const char *path, int flags, mode_t mode, const dbmx_how *how, struct stat *);
+
+/* for how many seconds an opening waits for a lock where the program doesn't say it: what KUMQUATFEN_WAIT says, or 5 */
+unsigned ndbm_file_wait(void);
+
+/* The descriptor of a new file that has no name and no bytes, and this mode and these times; -1 with errno where there is none.
+ * Nobody else has it, so any lock of it is had at once. */
+int ndbm_file_stand_in(const struct stat *);
+
+/* the process that opened a database, and what its children find cleared, or null */
+struct owner {
+    pid_t process;
+    const volatile unsigned char *mark;
+};
+
+/* The process that calls this is the owner. errno stays. */
+void ndbm_owner_begins(struct owner *);
+/* whether the process that calls this is the owner, and no child that fork made of it */
+bool ndbm_owner_is_here(const struct owner *);
+/* Gives back what it holds, in the owner or in a child. */
+void ndbm_owner_ends(struct owner *);
 
 #endif

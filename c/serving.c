@@ -163,16 +163,36 @@ static int sync_run(int fd, struct run *run) {
     return 0;
 }
 
-/* Carries out what is listed, in its order: 0, or the system's number for what it refused. A sync right behind another one is
- * left out, since it settles nothing more. */
+/* the last write of a list, up to some change of it */
+struct written {
+    bool is_there;
+    uint32_t sector;
+    unsigned char bytes[SECTOR];
+};
+
+/* Whether a write repeats the last one. The file has these bytes there then. It is the last one from now on. */
+static bool repeats(struct written *last, uint32_t sector, const unsigned char *bytes) {
+    if (last->is_there && last->sector == sector && !memcmp(last->bytes, bytes, SECTOR)) return true;
+    last->is_there = true;
+    last->sector = sector;
+    memcpy(last->bytes, bytes, SECTOR);
+    return false;
+}
+
+/* Carries out what is listed, in its order: 0, or the system's number for what it refused. A write that repeats the last one is left
+ * out, and so is a sync with no other write behind the sync before it, since it settles nothing more. An opening that was made again
+ * lists such ones. */
 static int carry_out(struct served *it) {
     struct run run;
+    struct written written;
     uint32_t sector = 0;
     int32_t change, last = 0;
     int error = 0;
     size_t i = 0;
     run.first = run.count = 0;
+    written.is_there = false;
     for (; !error && (change = ndbm_c_listed(&it->handle, i, &sector, behind(&run))) > 0; i++) {
+        if (change == WRITE && repeats(&written, sector, behind(&run))) continue;
         if (change == WRITE) error = put_in_run(it->fd, &run, sector);
         if (change == SYNC && last != SYNC) error = sync_run(it->fd, &run);
         last = change;
@@ -180,6 +200,20 @@ static int carry_out(struct served *it) {
     if (!error) error = write_run(it->fd, &run);
     if (!error && (i || it->given)) ndbm_c_carried_out(&it->handle);
     return error;
+}
+
+/* The number of errno where an export stopped within a change, or 0. Where it tells a fault of the device and the system refused
+ * nothing, it found no memory to list a write or a sync. A database in which that happened tells from then on that it is in doubt. */
+static int cut_short(const struct served *it, int32_t status) {
+    if (status == -BROKEN) return EIO;
+    return status == -DEVICE && !it->system ? ENOMEM : 0;
+}
+
+/* Carries out what an export that answered this status has listed, but nothing of a change that was cut short, which the file then
+ * hasn't: 0, or the number of errno. */
+static int carry_out_whole(struct served *it, int32_t status) {
+    int error = cut_short(it, status);
+    return error ? error : carry_out(it);
 }
 
 int ndbm_served_open(struct served *it, int fd, const struct how *how) {
@@ -194,11 +228,11 @@ int ndbm_served_open(struct served *it, int fd, const struct how *how) {
     do {
         status = ndbm_c_open(&it->handle, how);
     } while (ndbm_served_again(it, status));
-    int error = carry_out(it);
+    int error = carry_out_whole(it, status);
     if (!status && !error) return 0;
     ndbm_c_drop(&it->handle);
     close(fd);
-    int fault = error ? DEVICE : -status;
+    int fault = error && status != -BROKEN ? DEVICE : -status;
     errno = errno_for(fault, error ? error : it->system);
     return fault == DEVICE && errno == ENOMEM ? MEMORY : fault;
 }
@@ -207,14 +241,22 @@ void ndbm_served_close(struct served *it) {
     int before = errno, error = it->is_dead ? EIO : 0;
     if (!it->is_dead) {
         it->given = 0;
+        it->system = 0;
         int32_t status = ndbm_c_close(&it->handle);
-        error = carry_out(it);
+        error = carry_out_whole(it, status);
         if (!error && status < 0) error = errno_for(-status, 0);
     }
     ndbm_c_drop(&it->handle);
     /* The descriptor is closed also where a signal came. */
     if (close(it->fd) && errno != EINTR && !error) error = system_number();
     errno = error ? error : before;
+}
+
+void ndbm_served_leave(struct served *it) {
+    int before = errno;
+    ndbm_c_drop(&it->handle);
+    close(it->fd);
+    errno = before;
 }
 
 bool ndbm_served_begins(struct served *it, enum reading reading) {
@@ -244,13 +286,22 @@ bool ndbm_served_again(struct served *it, int32_t status) {
     return true;
 }
 
+/* Forgets the sector that the call lacked and wasn't given, which else would be taken for a miss of a later call. All that was listed
+ * is carried out. */
+static void forget_lacked(struct served *it) {
+    uint32_t sector = 0;
+    if (ndbm_c_lacks(&it->handle, &sector)) ndbm_c_carried_out(&it->handle);
+}
+
 int32_t ndbm_served_ends(struct served *it, int32_t status) {
-    int fault = ndbm_c_error(&it->handle), error = carry_out(it);
+    int fault = ndbm_c_error(&it->handle), error = carry_out_whole(it, status);
     if (error) {
         it->is_dead = true;
         if (!it->fault) it->fault = fault ? fault : DEVICE;
         it->system = error;
         status = -DEVICE;
+    } else if (status < 0 || it->reading == OF_GROUP) {
+        forget_lacked(it);
     }
     /* A fault that the crate doesn't keep is kept here: that of a file which was looked through, or of a pair to be added. */
     if (status < 0 && !fault && !it->fault) it->fault = -status;

@@ -4,8 +4,7 @@
 . "$(dirname "$0")/common"
 has_library
 
-# the words of the faults, from 1 on
-mapfile -t words < <(sed -n 's/^ *#\[error("\(.*\)")\]$/\1/p' "$top/crates/dbm_fault/src/fault.rt")
+. "$top/tests/c_words"
 
 # calls HOW NAME LINKED..: the program of c/test/NAME.c, linked so, finds nothing wrong
 calls() {
@@ -29,4 +28,4 @@ for file in "$top"/c/test/*.c; do
   readelf -d "$work/$name.archive/program" | grep -q 'NEEDED.*libndbm' && wrong "$name is linked to libndbm.so.1"
   programs=$((programs + 1))
 done
-[ "$bad" = 0 ] && [ "$programs" -ge 6 ]
+[ "$bad" = 0 ] && [ "$programs" -ge 10 ]

@@ -3,6 +3,7 @@
 # and tells of the faults what the crate's texts say. The program of docs/LIBRARY.md compiles and runs as it stands there, too.
 . "$(dirname "$0")/common"
 has_library
+. "$top/tests/c_words"
 page=$top/docs/ndbm.3
 
 # literal N: the n-th text of the examples, as a reader sees it
@@ -14,15 +15,15 @@ literal 1 > program.c
 literal 2 > wanted
 [ "$(wc -l < program.c)" -ge 30 ] && [ "$(wc -l < wanted)" = 2 ] || wrong "the examples are read wrong"
 cc -std=c11 -Wall -Wextra -Wpedantic -Werror -I"$top/c" program.c "$library/libndbm.a" -o program || exit 1
-words=$(sed -n '/^With the words/,/^and/s/^\.Li \(.*\) ,$/\1/p' "$page")
-[ "$words" = 'red blue red' ] || wrong "the words of the page's program are read as '$words'"
+counted=$(sed -n '/^With the words/,/^and/s/^\.Li \(.*\) ,$/\1/p' "$page")
+[ "$counted" = 'red blue red' ] || wrong "the words of the page's program are read as '$counted'"
 # shellcheck disable=SC2086
-./program $words > printed 2> err || wrong "the page's program ends with status $?"
+./program $counted > printed 2> err || wrong "the page's program ends with status $?"
 [ ! -s err ] || { wrong "the page's program complains:"; cat err; }
 sort printed | diff wanted - || wrong "the page's program prints something else (< page, > program)"
 mkdir -p folder/words.db
 (cd folder && ../program a > out 2> err)
-[ $? = 1 ] && [ "$(cat folder/err)" = $'words.db: Is a directory\nthe device failed' ] ||
+[ $? = 1 ] && [ "$(cat folder/err)" = $'words.db: Is a directory\n'"${words[1]}" ] ||
   wrong "the page's program doesn't tell why it can't open"
 
 # names WHAT: each function of the header stands in this list
@@ -33,16 +34,21 @@ sed '1,/^\.Sh DESCRIPTION/d' "$page" | grep -oE '\bdbmx?_[a-z_]+' | grep -vx 'db
 for list in named shown told; do
   diff declared "$list" || wrong "the functions that are $list are others than the header's (< header)"
 done
-for constant in DBM_INSERT DBM_REPLACE DBMX_PAIR_MAX DBMX_KEY_MAX DBMX_CONTENT_MAX DBMX_VERSION_1 DBMX_UNLOCKED; do
+grep -oE '^#define [A-Z_0-9]+ ' "$top/c/ndbm.h" | sed 's/#define //; s/ $//' > constants
+[ "$(wc -l < constants)" -ge 13 ] || wrong "the constants of the header are read wrong: $(xargs < constants)"
+while read -r constant; do
   grep -q "Dv $constant" "$page" || wrong "the page has no $constant"
+done < constants
+for constant in KUMQUATFEN_NDBM_VERSION DBM_SUFFIX; do
+  grep -qxF "$(grep "^#define $constant " "$top/c/ndbm.h")" "$page" || wrong "the page has another $constant than the header"
 done
 
 # the faults
-sed -n 's/^ *#\[error("\(.*\)")\]$/\1/p' "$top/crates/dbm_fault/src/fault.rt" > words
+printf '%s\n' "${words[@]}" > words
 sed '1,/^\.Sh DIAGNOSTICS/d' "$page" | sed -n '/^\.Bl/,/^\.El/p' | grep -A1 '^\.It [0-9]' | grep -v '^--' | paste - - |
   sed 's/^\.It //' > faults
 awk '{ print NR "\t" $0 }' words > wanted
-sed 's/: [^:]*$//' faults | diff wanted - || wrong "the page has other words for the faults (< crate, > page)"
+sed 's/: [^:]*$//' faults | diff wanted - || wrong "the page has other words for the faults (< wanted, > page)"
 sed '1,/^\.Sh ERRORS/d; /^\.Sh SEE/,$d' "$page" | sed -n 's/^\.It Bq Er //p' > numbers
 errnos='ENOMEM system EIO EPERM EINVAL ENOSPC EINVAL ENOSPC EIO EINVAL EINVAL ENOSPC EINVAL ENOENT EEXIST'
 [ "$(sed "s/.*: //; s/^the system's number$/system/" faults | tr '\n' ' ')" = "$errnos " ] ||

@@ -5,7 +5,7 @@
 # the sanitizers.
 . "$(dirname "$0")/common"
 has_library
-mapfile -t words < <(sed -n 's/^ *#\[error("\(.*\)")\]$/\1/p' "$top/crates/dbm_fault/src/fault.rt")
+. "$top/tests/c_words"
 # Syncs take no time on a memory file system, and are as good here.
 rooms=$work
 if [ -w /dev/shm ]; then rooms=$(mktemp -d /dev/shm/c_memory.XXXXXX) && trap 'rm -rf "$work" "$rooms"' EXIT; fi
@@ -13,9 +13,9 @@ flags=(-std=c11 -D_GNU_SOURCE "${strict[@]}" -O1 -g -I"$top/c")
 
 names=()
 for file in "$top"/c/test/*.c; do
-  if ! grep -q '^void \*malloc(' "$file"; then names+=("$(basename "$file" .c)"); fi
+  if ! grep -q '^#include "refusing.h"' "$file"; then names+=("$(basename "$file" .c)"); fi
 done
-[ "${#names[@]}" -ge 6 ] || wrong "only ${#names[@]} programs are looked at"
+[ "${#names[@]}" -ge 10 ] || wrong "only ${#names[@]} programs are looked at"
 
 # runs HOW NAME WORD..: the program that was compiled so ends well, in a folder of its own, with these words in front of it
 runs() {

@@ -9,8 +9,8 @@ trap '[ -z "$pid" ] || kill -9 "$pid" 2> /dev/null; rm -rf "$work"' EXIT
 
 # user change FILE: lines 'S KEY CONTENT', 'D KEY' and 'end', which ends without closing, in the words of a dump
 # user list FILE: the pairs, in the words of a dump
-# user open FILE HOW SECONDS: opens the file, waits so long for it, says 'open' or why not, and has it open to the end of
-# the input
+# user open FILE HOW SECONDS: opens the file, waits so long for it, or as dbm_open does for '-', says 'open' or why not, and has it
+# open to the end of the input
 cat > user.c <<'END'
 #include <errno.h>
 #include <fcntl.h>
@@ -56,9 +56,9 @@ static int list(DBM *db) {
     return dbm_error(db) || dbmx_verify(db);
 }
 
-static int hold(const char *file, int flags, unsigned seconds) {
-    dbmx_how how = {.wait = seconds};
-    DBM *db = seconds ? dbmx_open(file, flags, 0, &how, NULL) : dbm_open(file, flags, 0);
+static int hold(const char *file, int flags, const char *seconds) {
+    dbmx_how how = {.wait = (unsigned)atoi(seconds)};
+    DBM *db = *seconds == '-' ? dbm_open(file, flags, 0) : dbmx_open(file, flags, 0, &how, NULL);
     puts(db ? "open" : errno == EAGAIN && errno == EWOULDBLOCK ? "locked" : strerror(errno));
     fflush(stdout);
     while (db && getchar() != EOF) continue;
@@ -68,7 +68,7 @@ static int hold(const char *file, int flags, unsigned seconds) {
 
 int main(int count, char **word) {
     if (count < 3) return 2;
-    if (!strcmp(word[1], "open")) return hold(word[2], *word[3] == 'w' ? O_RDWR : O_RDONLY, (unsigned)atoi(word[4]));
+    if (!strcmp(word[1], "open")) return hold(word[2], *word[3] == 'w' ? O_RDWR : O_RDONLY, word[4]);
     int lists = !strcmp(word[1], "list");
     DBM *db = dbm_open(word[2], lists ? O_RDONLY : O_RDWR | O_CREAT, 0644);
     if (!db) return fail(word[2]);
@@ -214,6 +214,17 @@ lets_go
 read -t 25 -r -u "$wait" reply
 [ "$reply" = open ] || wrong "an opening that waits for the tool says '$reply'"
 exec {wait}<&-
+# dbm_open waits by itself
+holds "$program" script t
+echo 'F 6b' >&"$to"
+read -t 20 -r -u "$from" reply
+[ "$reply" = 76 ] || wrong "the script answers '$reply'"
+exec {wait}< <(exec {to}>&- {from}<&-; unset KUMQUATFEN_WAIT; timeout 30 ./user open t w - < /dev/null)
+sleep 0.5
+lets_go
+read -t 25 -r -u "$wait" reply
+[ "$reply" = open ] || wrong "dbm_open, which waits for the tool, says '$reply'"
+exec {wait}<&-
 [ "$(./user list t | grep '^6b ')" = '6b 76' ] || wrong "what the tool stored beside waits isn't there"
 # longer than a pipe holds
 seq 4000 | awk '{ printf "%032x 76\n", $1 }' | "$program" load --group 4000 t || exit 1
@@ -237,6 +248,12 @@ reply=$(REPLACE=t.db REPLACE_BY=next.db LD_PRELOAD=./replace.so timeout 20 ./use
 [ "$reply" = locked ] || wrong "a file that was replaced is opened for writing: $reply"
 [ "$("$program" fetch t k)" = new ] && cmp -s old.db before || wrong 'an opening of a file that was replaced changes one of the two'
 "$program" create next --limit 100 && "$program" store next k newer || exit 1
-echo 'S 6b 77' | REPLACE=t.db REPLACE_BY=next.db LD_PRELOAD=./replace.so timeout 20 ./user change t 2> err && wrong 'a file that was replaced is changed'
-[ "$("$program" fetch t k)" = newer ] || wrong "a file that took another one's place is changed"
+cp t.db before && ln -f t.db old.db || exit 1
+echo 'S 6b 77' | KUMQUATFEN_WAIT=0 REPLACE=t.db REPLACE_BY=next.db LD_PRELOAD=./replace.so timeout 20 ./user change t 2> err &&
+  wrong 'a file that was replaced is changed'
+[ "$("$program" fetch t k)" = newer ] && cmp -s old.db before || wrong "a file that took another one's place is changed"
+"$program" create next --limit 100 && "$program" store next k newest && cp t.db before && ln -f t.db old.db || exit 1
+echo 'S 6b 78' | KUMQUATFEN_WAIT=5 REPLACE=t.db REPLACE_BY=next.db LD_PRELOAD=./replace.so timeout 20 ./user change t 2> err ||
+  wrong "behind a wait, the file that took another one's place isn't opened: $(cat err)"
+[ "$("$program" fetch t k)" = x ] && cmp -s old.db before || wrong 'behind a wait, another file is changed'
 [ "$bad" = 0 ]

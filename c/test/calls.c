@@ -146,7 +146,7 @@ static void errors(DBM *db) {
 static void descriptors(void) {
     DBM *db = open_or_end("t", O_RDWR);
     struct stat file, found;
-    WORKS(dbm_pagfno(db) > 2 && dbm_dirfno(db) == dbm_pagfno(db));
+    WORKS(dbm_pagfno(db) > 2 && dbm_dirfno(db) > 2 && dbm_dirfno(db) != dbm_pagfno(db));
     CHECK(!stat("t.db", &file) && !fstat(dbm_pagfno(db), &found) && file.st_ino == found.st_ino && file.st_dev == found.st_dev);
     WORKS(dbm_rdonly(db) == 0);
     int fd = dbm_pagfno(db);

@@ -1,27 +1,13 @@
-/* What fails below the library: memory that is refused, a file that can't grow, a folder that can't be synced, and what the file
- * keeps then. The system's functions that it calls are those here: they change errno also where they succeed, as they may. */
+/* What fails below the library: memory that is refused, a file that can't grow or be looked at, and what the file keeps then. The
+ * system's functions that it calls are those here: they change errno also where they succeed, as they may. */
+#include "refusing.h"
+
 #include <signal.h>
 #include <sys/file.h>
 #include <sys/resource.h>
 #include <sys/syscall.h>
 
 #include "check.h"
-
-void *__libc_malloc(size_t size);
-
-/* the malloc that is refused, counted from now on; 0: none */
-static long refused;
-static bool was_refused;
-
-void *malloc(size_t size) {
-    if (refused && !--refused) {
-        was_refused = true;
-        errno = ENOMEM;
-        return NULL;
-    }
-    errno = ENOTTY;
-    return __libc_malloc(size);
-}
 
 static long noted(long answer) {
     if (answer >= 0) errno = ENOTTY;
@@ -36,32 +22,36 @@ ssize_t pread64(int fd, void *to, size_t size, off_t at) {
     return noted(syscall(SYS_pread64, fd, to, size, at));
 }
 
+/* how many writes and syncs were made */
+static int writes, syncs;
+
 ssize_t pwrite(int fd, const void *from, size_t size, off_t at) {
+    writes++;
     return noted(syscall(SYS_pwrite64, fd, from, size, at));
 }
 
 ssize_t pwrite64(int fd, const void *from, size_t size, off_t at) {
-    return noted(syscall(SYS_pwrite64, fd, from, size, at));
+    return pwrite(fd, from, size, at);
 }
 
 int fdatasync(int fd) {
+    syncs++;
     return (int)noted(syscall(SYS_fdatasync, fd));
 }
 
-/* the folder that was synced last, and whether one can't be */
-static ino_t synced;
-static bool is_unsyncable;
-
 int fsync(int fd) {
-    struct stat it;
-    if (!fstat(fd, &it) && S_ISDIR(it.st_mode)) {
-        synced = it.st_ino;
-        if (is_unsyncable) {
-            errno = EDQUOT;
-            return -1;
-        }
-    }
     return (int)noted(syscall(SYS_fsync, fd));
+}
+
+/* the fstat that is refused, counted from now on; 0: none */
+static long unseen;
+
+int fstat(int fd, struct stat *it) {
+    if (unseen && !--unseen) {
+        errno = EOVERFLOW;
+        return -1;
+    }
+    return (int)noted(syscall(SYS_fstat, fd, it));
 }
 
 int flock(int fd, int operation) {
@@ -72,10 +62,12 @@ int close(int fd) {
     return (int)noted(syscall(SYS_close, fd));
 }
 
-/* Refuses the n-th malloc from now on. */
-static void refuse(long n) {
-    refused = n;
-    was_refused = false;
+/* The database, which is opened again where a change that was refused has left it of no use. */
+static DBM *usable(DBM *db, const char *file) {
+    errno = 0;
+    if (dbm_fetch(db, of("a")).dptr || errno != EIO) return db;
+    FAILS(EIO, (dbm_close(db), true));
+    return open_or_end(file, O_RDWR);
 }
 
 /* an opening opens, or tells of memory and leaves nothing open */
@@ -101,7 +93,7 @@ static void openings(int flags) {
 }
 
 /* a list of one pair is stored, or tells of memory and isn't there */
-static void lists(DBM *db) {
+static DBM *lists(DBM *db) {
     const dbmx_pair pair = {of("a"), of("1")};
     long n = 0;
     do {
@@ -111,9 +103,11 @@ static void lists(DBM *db) {
         int status = dbmx_store_many(db, &pair, 1, &count), error = errno;
         refused = 0;
         CHECK(status ? status == -1 && was_refused && error == ENOMEM && count == 0 : error == 77 && count == 1);
+        db = usable(db, "memory");
         CHECK(!dbm_clearerr(db) && (status != 0) == !dbm_fetch(db, of("a")).dptr);
         if (!status) CHECK(dbm_delete(db, of("a")) == 0);
     } while (was_refused);
+    return db;
 }
 
 /* A store stores, or tells of memory and changes nothing. Where there is no memory for pages of the file, the fault is the
@@ -129,13 +123,13 @@ static void stores(void) {
         refused = 0;
         stored += status == 0;
         if (status) CHECK(status == -1 && was_refused && error == ENOMEM && (fault == 1 || fault == 2));
+        db = usable(db, "memory");
         CHECK(dbm_clearerr(db) == 0);
         if (!status) CHECK(error == 77);
     }
     dbmx_numbers numbers;
     CHECK(dbmx_stat(db, &numbers) == 0 && numbers.pairs == (uint32_t)stored && dbmx_verify(db) == 0);
-    lists(db);
-    dbm_close(db);
+    dbm_close(lists(db));
 }
 
 /* a long content is stored and fetched, or memory is told and nothing has changed; so where the key lies in the content */
@@ -152,6 +146,7 @@ static void contents(void) {
         int status = dbm_store(db, of("a"), content, DBM_REPLACE), error = errno, fault = dbm_error(db);
         refused = 0;
         if (status) CHECK(status == -1 && was_refused && error == ENOMEM && (fault == 1 || fault == 2));
+        db = usable(db, "contents");
         CHECK(dbm_clearerr(db) == 0 && dbm_fetch(db, of("a")).dsize == (status ? 5 : sizeof bytes));
     } while (was_refused);
     dbm_close(db);
@@ -292,41 +287,50 @@ static void quiet(void) {
     WORKS((dbm_close(db), true));
 }
 
-static ino_t inode_of(const char *path) {
-    struct stat it;
-    return stat(path, &it) ? 0 : it.st_ino;
+/* An opening for writing of a file that is there makes one write and one sync, however often it is made again for pages that it lacks,
+ * and one for reading makes none. */
+static void openings_of_a_file(void) {
+    writes = syncs = 0;
+    DBM *db = open_or_end("quiet", O_RDONLY);
+    CHECK(is(dbm_fetch(db, of("a")), "1"));
+    dbm_close(db);
+    CHECK(writes == 0 && syncs == 0);
+    db = open_or_end("quiet", O_RDWR);
+    CHECK(writes == 1 && syncs == 1);
+    CHECK(is(dbm_fetch(db, of("a")), "1"));
+    dbm_close(db);
+    CHECK(writes == 1 && syncs == 1);
 }
 
-/* the folder of a file that is made is synced, and where it can't be the opening is refused and the file stays */
-static void folders(void) {
-    char here[4000], path[4100];
-    int fault = 0;
-    CHECK(!mkdir("folder", 0755) && !mkdir("folder/below", 0755) && getcwd(here, sizeof here));
-    snprintf(path, sizeof path, "%s/folder/absolute", here);
-    const struct {
-        const char *file, *folder;
-    } each[] = {
-        {"plain", "."}, {"./dotted", "."}, {"folder/one", "folder"}, {"folder/below/two", "folder/below"}, {path, "folder"},
-    };
-    for (size_t i = 0; i < sizeof each / sizeof *each; i++) {
-        synced = 0;
-        dbm_close(open_or_end(each[i].file, i % 2 ? O_RDWR | O_CREAT : O_RDWR | O_CREAT | O_EXCL));
-        CHECK(synced && synced == inode_of(each[i].folder));
-        synced = 0;
-        dbm_close(open_or_end(each[i].file, O_RDWR | O_CREAT));
-        CHECK(!synced);
+/* An opening that can't look at its file is refused with the system's number, so many times; a file that is written is then looked at
+ * once more, and taken for one that another file has the place of where that fails. It leaves nothing open and nothing locked. */
+static void looks(const char *file, int flags, long times) {
+    const dbmx_how how = {.wait = 0};
+    long n = 0;
+    DBM *db = NULL;
+    while (!db && n < 10) {
+        int fault = 99;
+        unseen = ++n;
+        errno = 77;
+        db = dbmx_open(file, flags, 0644, &how, &fault);
+        int error = errno;
+        if (n <= times) CHECK(!db && error == EOVERFLOW && fault == 2);
+        if (n > times && !db) CHECK(n == times + 1 && flags != O_RDONLY && error == EAGAIN && fault == 2);
     }
-    is_unsyncable = true;
-    FAILS(EDQUOT, !dbmx_open("folder/three", O_RDWR | O_CREAT, 0644, NULL, &fault));
-    CHECK(fault == 2 && size_of("folder/three.db") == 0);
-    is_unsyncable = false;
-    dbm_close(open_or_end("folder/three", O_RDWR | O_CREAT | O_EXCL));
+    CHECK(n == times + 1 + (flags != O_RDONLY) && unseen);
+    unseen = 0;
+    if (db) dbm_close(db);
 }
 
 int main(void) {
     int before = open_descriptors();
     quiet();
-    folders();
+    openings_of_a_file();
+    looks("quiet", O_RDONLY, 1);
+    looks("quiet", O_RDWR, 1);
+    looks("quiet", O_RDWR | O_CREAT, 2);
+    write_file("none.db", "", 0, 0644);
+    looks("none", O_RDWR | O_CREAT | O_EXCL, 3);
     openings(O_RDWR | O_CREAT | O_EXCL);
     openings(O_RDWR | O_CREAT);
     openings(O_RDONLY);

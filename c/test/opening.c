@@ -112,6 +112,7 @@ static void streams(void) {
     dup2(kept, 1);
     CHECK(fd > 2 && flags == FD_CLOEXEC && are_free);
     CHECK(is(dbm_fetch(db, of("a")), "1"));
+    setenv("KUMQUATFEN_WAIT", "0", 1);
     FAILS(EAGAIN, !dbm_open("t", O_RDONLY, 0));
     dbm_close(db);
     dbm_close(open_or_end("t", O_RDWR));

@@ -1,4 +1,5 @@
-/* Openings beside one another: locks, waits for them, openings without; threads with a small stack; programs that are begun. */
+/* Openings beside one another: locks, which aren't waited for here, and openings without; threads with a small stack; programs that
+ * are begun. */
 #include <pthread.h>
 #include <signal.h>
 #include <sys/file.h>
@@ -7,12 +8,6 @@
 #include "check.h"
 
 enum { STACK = 384 * 1024, STORES = 2000 };
-
-static double now(void) {
-    struct timespec it;
-    clock_gettime(CLOCK_MONOTONIC, &it);
-    return (double)it.tv_sec + (double)it.tv_nsec / 1e9;
-}
 
 static void locks(void) {
     int fault = 0;
@@ -50,52 +45,6 @@ static void foreign(void) {
     dbm_close(db);
     CHECK(!flock(fd, LOCK_EX | LOCK_NB));
     close(fd);
-}
-
-/* A child has the file open for so long. */
-static pid_t held_for(long milliseconds) {
-    int ready[2];
-    char byte = 0;
-    if (pipe(ready)) exit(2);
-    pid_t child = fork();
-    if (!child) {
-        DBM *db = open_or_end("t", O_RDWR);
-        struct timespec time = {milliseconds / 1000, milliseconds % 1000 * 1000000};
-        if (write(ready[1], &byte, 1) != 1) _exit(2);
-        nanosleep(&time, NULL);
-        dbm_close(db);
-        _exit(0);
-    }
-    if (read(ready[0], &byte, 1) != 1) exit(2);
-    close(ready[0]);
-    close(ready[1]);
-    return child;
-}
-
-static void waiting(void) {
-    dbmx_how how = {.wait = 20};
-    int fault = 99;
-    double began = now();
-    DBM *db = NULL;
-    pid_t child = held_for(500);
-    WORKS((db = dbmx_open("t", O_RDWR, 0, &how, &fault)) && fault == 0);
-    CHECK(now() - began >= 0.4 && now() - began < 19);
-    if (db) dbm_close(db);
-    waitpid(child, NULL, 0);
-
-    /* a second passes, and the file is still held */
-    db = open_or_end("t", O_RDWR);
-    how.wait = 1;
-    began = now();
-    FAILS(EAGAIN, !dbmx_open("t", O_RDONLY, 0, &how, &fault));
-    CHECK(fault == 2 && now() - began >= 0.9);
-    /* what a wait is not for */
-    how.wait = 30;
-    began = now();
-    FAILS(ENOENT, !dbmx_open("none", O_RDONLY, 0, &how, &fault));
-    FAILS(EEXIST, !dbmx_open("t", O_RDWR | O_CREAT | O_EXCL, 0, &how, &fault));
-    CHECK(now() - began < 20);
-    dbm_close(db);
 }
 
 static void unlocked(void) {
@@ -186,9 +135,9 @@ static void programs(void) {
 
 int main(void) {
     int before = open_descriptors();
+    setenv("KUMQUATFEN_WAIT", "0", 1);
     locks();
     foreign();
-    waiting();
     unlocked();
     threads();
     programs();
