@@ -60,12 +60,12 @@ elif [ ! -e "$archive" ] || [ ! -e "$kit/c/libos_c.a" ]; then
   echo "left out: the crate's archive or the kit's isn't there"
 else
   ./past 2> err && wrong "the sanitizers don't see a read past the memory"
-  for part in ndbm serving file; do
+  for part in ndbm serving file owner; do
     cc "${flags[@]}" -U_GNU_SOURCE "${sanitized[@]}" -c -o "$part.o" "$top/c/$part.c" || wrong "c/$part.c isn't compiled"
   done
   for name in "${names[@]}"; do
     cc "${flags[@]}" "${sanitized[@]}" -o "$work/sanitizers/$name" "$top/c/test/$name.c" \
-      "$work"/sanitizers/{ndbm,serving,file}.o "$archive" "$kit/c/libos_c.a" "$kit/c/liblibc_c.a" -pthread ||
+      "$work"/sanitizers/{ndbm,serving,file,owner}.o "$archive" "$kit/c/libos_c.a" "$kit/c/liblibc_c.a" -pthread ||
       wrong "$name isn't compiled"
     runs sanitizers "$name" env UBSAN_OPTIONS=print_stacktrace=1
   done
