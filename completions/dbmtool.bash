@@ -42,6 +42,11 @@ _dbmtool() {
   fi
   case ${COMP_WORDS[COMP_CWORD - 1]} in
     --group | --limit | --memory | --stops | =) return ;;
+    '<' | '>' | '>>' | '2>')
+      compopt -o filenames 2> /dev/null
+      mapfile -t COMPREPLY < <(compgen -f -- "$word")
+      return
+      ;;
   esac
   case ${COMP_WORDS[1]} in
     create) options='--limit --v2 -h --help' ;;
@@ -58,7 +63,7 @@ _dbmtool() {
     -*) mapfile -t COMPREPLY < <(compgen -W "$options" -- "$word") ;;
     *,0,help) mapfile -t COMPREPLY < <(compgen -W "$commands" -- "$word") ;;
     *,*,faults | *,*,help) ;;
-    *,0,*)
+    *,0,* | *,1,backup)
       compopt -o filenames 2> /dev/null
       mapfile -t COMPREPLY < <(_dbmtool_databases "$word")
       ;;

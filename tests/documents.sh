@@ -57,6 +57,12 @@ for command in $commands; do
   # shellcheck disable=SC2016
   agrees "zsh's options of $command" "$(sed "s/\$help/-h --help/" <<< "$row" | options_in)" "$options"
 done
+# what stands behind a redirection is a file of any name, and a backup has a second name
+mkdir -p offers/copies && : > offers/notes.text && : > offers/table.db
+[ "$(cd offers && offered dbmtool load table '<' no)" = notes.text ] || wrong "bash offers no file behind <"
+[ "$(cd offers && offered dbmtool dump table '>' no)" = notes.text ] || wrong "bash offers no file behind >"
+[ "$(cd offers && offered dbmtool backup table co)" = copies ] || wrong "bash offers no folder for a backup"
+rm -r offers
 agrees "the page's options" "$(sed -n '/^The options:/,/^\.Ss/p' "$page" | grep '^\.It' | page_options)" "$every"
 grep -q '^  help=.*{-h,--help}' "$zsh" || wrong "zsh's help isn't -h and --help"
 

@@ -77,10 +77,13 @@ postmaster  root,
   # not this
 
 info	carol   and dave  
+abuse@example.org  mallory
+alone
 END
   printf '%s\n' '6162757365406578616d706c652e6f7267 616c696365' '696e666f 6361726f6c202020616e642064617665' \
     '706f73746d6173746572 726f6f742c202020626f62' > wanted
-  follows 'From a table of Postfix' && are_there Postfix
+  follows 'From a table of Postfix' && [ "$(cut -c1-30 err)" = $'twice: abuse@example.org\nno value: alone' ] || wrong "Postfix: told $(cat err)"
+  are_there Postfix
 
   anew
   cat > aliases <<'END'
@@ -94,9 +97,12 @@ root :ann,
 "a\"b":dave
 info:	"|/usr/bin/count x"  
 owner-list: :include:/etc/list
+ABUSE: mallory
+nocolon admin
 END
   printf '%s\n' '612262 64617665' '6162757365 616c696365' '696e666f 227c2f7573722f62696e2f636f756e74207822' '6f776e65722d6c697374 3a696e636c7564653a2f6574632f6c697374' '726f6f74 616e6e2c202020626f62' '74776f20776f726473 6361726f6c' > wanted
-  follows 'From aliases(5)' && are_there 'aliases(5)'
+  follows 'From aliases(5)' && [ "$(cut -c1-31 err)" = $'twice: ABUSE\nno key and colon: nocolon admin' ] || wrong "aliases(5): told $(cat err)"
+  are_there 'aliases(5)'
 
   anew
   rows > table.tabs
