@@ -49,6 +49,11 @@ END
 # files FOLDER: what stands there, with modes
 files() { (cd "$1" && find . ! -type d -printf '%m %P\n' | sort -k 2); }
 
+# a PREFIX with no slash would stand right behind DESTDIR
+status=0
+DESTDIR=$work/dest "$top/install" it > out 2>&1 || status=$?
+[ $status = 3 ] && [ ! -e "$work/destit" ] || wrong "DESTDIR and a PREFIX with no slash: status $status"
+
 # below DESTDIR, and without
 DESTDIR=$work/dest "$top/install" --library /opt/it > out 2>&1 || { wrong "./install --library:"; cat out; }
 files dest/opt/it | diff wanted - || wrong "other files are installed (> installed)"
