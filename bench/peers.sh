@@ -10,8 +10,9 @@
 #
 # In the environment: ROUNDS (3); GROUP (10000), how many lines of a load of dbmtool share a commit; MOST
 # (2000), the most pairs that are stored one by one, and as many deleted, since on a disk each may
-# take milliseconds; CACHE, how many pages dbmtool keeps in memory (--cache); DBMTOOL, a built program to
-# measure in place of this tree's.
+# take milliseconds; SYNCS (1), how many syncs each of many stores of dbmtool takes, 1 or 2; CACHE, how
+# many pages dbmtool keeps in memory (--cache); DBMTOOL, a built program to measure in place of this
+# tree's.
 set -euo pipefail
 top=$(cd "$(dirname "$0")/.." && pwd)
 folder=${1:?the folder that is to be measured}
@@ -20,6 +21,7 @@ counts=("${@:2}")
 rounds=${ROUNDS:-3}
 group=${GROUP:-10000}
 most=${MOST:-2000}
+syncs=${SYNCS:-1}
 
 work=$(realpath "$(mktemp -d "$folder/peers.XXXXXX")")
 trap 'rm -rf "$work"' EXIT
@@ -101,7 +103,7 @@ run() {
 run_round() {
   rm -rf base
   mkdir base
-  "${program[dbmtool]}" create base/dbmtool --limit 1000000 || fail "dbmtool create ends by $?"
+  "${program[dbmtool]}" create base/dbmtool --limit 1000000 --syncs "$syncs" || fail "dbmtool create ends by $?"
   local workload name
   for workload in "${workloads[@]}"; do
     for name in "${names[@]}"; do run "$name" "$workload"; done

@@ -12,7 +12,7 @@ _dbmtool_places() {
   local at count=0
   for ((at = 2; at < COMP_CWORD; at++)); do
     case ${COMP_WORDS[at]} in
-      --group | --limit | --memory | --stops) at=$((at + 1)); [ "${COMP_WORDS[at]}" != = ] || at=$((at + 1)) ;;
+      --group | --limit | --memory | --stops | --syncs) at=$((at + 1)); [ "${COMP_WORDS[at]}" != = ] || at=$((at + 1)) ;;
       -*) ;;
       *) count=$((count + 1)) ;;
     esac
@@ -41,7 +41,7 @@ _dbmtool() {
     return
   fi
   case ${COMP_WORDS[COMP_CWORD - 1]} in
-    --group | --limit | --memory | --stops | =) return ;;
+    --group | --limit | --memory | --stops | --syncs | =) return ;;
     '<' | '>' | '>>' | '2>')
       compopt -o filenames 2> /dev/null
       mapfile -t COMPREPLY < <(compgen -f -- "$word")
@@ -49,14 +49,15 @@ _dbmtool() {
       ;;
   esac
   case ${COMP_WORDS[1]} in
-    create) options='--limit --v2 -h --help' ;;
+    create) options='--limit --syncs --v2 -h --help' ;;
     store | insert | fetch | delete) options='-x -h --help' ;;
     script) options='--memory --read --text --v2 -h --help' ;;
     rehearse) options='--memory --stops --v2 -h --help' ;;
     list | dump) options='--text -h --help' ;;
     load) options='--group --limit --replace --text -h --help' ;;
     resize) options='--limit -h --help' ;;
-    stat | verify | upgrade | backup | salvage | faults) options='-h --help' ;;
+    upgrade) options='--syncs -h --help' ;;
+    stat | verify | backup | salvage | faults) options='-h --help' ;;
   esac
   places=$(_dbmtool_places)
   case $word,$places,${COMP_WORDS[1]} in

@@ -12,7 +12,10 @@ each_sync row first row 8
 each_sync row_stopped first row 8 failed
 each_sync one first one 4
 each_sync one_stopped first one 4 failed
-killed one_killed one 1
+killed one_killed first one 1
+each_sync logged logged row 8
+each_sync logged_stopped logged row 8 failed
+killed logged_killed logged row 5
 each_sync far far far_row 8
 judged
 exit $bad

@@ -71,8 +71,8 @@ pages() {
 # Eight pairs; the ninth opens a bucket, which is page 4, so that the images of pages 1 to 4 stand from page 5 on.
 "$program" create t8 --limit 100 || exit 1
 for digit in 1 2 3 4 5 6 7 8; do echo "6$digit 0$digit"; done | "$program" load t8 || exit 1
-# An opening for writing writes the commit sector back before its first sync.
-begins=$(printf 'read 0 512\nwrite 0 512\nsync\nread 0 512')
+# An opening for writing looks what the commit sector says, and writes it back before its first sync.
+begins=$(printf 'read 0 512\nread 0 512\nwrite 0 512\nsync\nread 0 512')
 opening=$begins$'\n'$(pages read 1)
 store=$(pages read 2 3; pages write 5 6 7 8; printf 'sync\nwrite 0 512\nsync')
 closing=$(pages write 1 2 3 4; printf 'sync\nwrite 0 512\nsync')
@@ -80,7 +80,7 @@ traced t8 'S 69 09' "$opening"$'\n'"$store"$'\n'"$closing"
 
 # The same store without its closing: the next opening reads the commit sector, and each image to check it; it reads each again and writes its
 # page, and clears the sector.
-cut 15 t8 'S 69 09'
+cut 16 t8 'S 69 09'
 cp t.db armed.db
 settling=$(pages read 5 6 7 8; for n in 1 2 3 4; do pages read $((n + 4)); pages write "$n"; done; printf 'sync\nwrite 0 512\nsync')
 traced armed '' "$begins"$'\n'"$settling"$'\n'"$(pages read 1)"

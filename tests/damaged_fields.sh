@@ -16,7 +16,7 @@ run 0 9 '' verify nine
 # ---- the commit sector: magic, state, end, start and count, and zeros behind
 changed 'the magic of something else' nine.db 0 47
 refused 10
-changed 'the last letter of the magic' nine.db 7 32
+changed 'the last letter of the magic' nine.db 7 33
 refused 10
 changed 'a first sector of something else' nine.db 0 00010001000100016b76
 refused 10

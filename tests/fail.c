@@ -1,7 +1,9 @@
 // Calls of the system to preload. The one whose number FAIL_CALL gives, counted from 1 among reads, writes and syncs of the file at a
 // place of their own, fails with EIO; with FAIL_CALL=0 none does, and how many there were is written to standard error at the end.
 // With FAIL_HOW=from each call after it fails too. With FAIL_HOW=late a read or a write is made before it fails. What no sync came behind
-// is taken back at the end, as a power cut may: with FAIL_LOSE=lost each sector, with odd the first, the third and so on, with even the others.
+// is taken back at the end, as a power cut may: with FAIL_LOSE=lost each sector, with odd the first, the third and so on, with even the others;
+// with first the first half of them, with last the other one, and with a number those that are drawn by it.
+// With FAIL_SYNCS=no a sync is answered without being made, which is faster.
 // Each call is appended to the file that FAIL_TRACE names: `read` or `write`, its place and its size in bytes, or `sync`.
 #define _GNU_SOURCE
 #include <dlfcn.h>
@@ -15,7 +17,8 @@
 
 static long failing = -1;
 static long made = 0;
-static int from, late, lose_odd, lose_even;
+static int from, late, loses, lose_odd, lose_even, lose_first, lose_last;
+static unsigned long drawn_by;
 
 #define SECTOR 512
 
@@ -53,6 +56,10 @@ static int fails(void) {
         late = is_set("FAIL_HOW", "late");
         lose_odd = is_set("FAIL_LOSE", "lost") || is_set("FAIL_LOSE", "odd");
         lose_even = is_set("FAIL_LOSE", "lost") || is_set("FAIL_LOSE", "even");
+        lose_first = is_set("FAIL_LOSE", "first");
+        lose_last = is_set("FAIL_LOSE", "last");
+        drawn_by = getenv("FAIL_LOSE") ? strtoul(getenv("FAIL_LOSE"), NULL, 10) : 0;
+        loses = lose_odd || lose_even || lose_first || lose_last || drawn_by;
     }
     made++;
     if (failing == 0 || (from ? made < failing : made != failing)) return 0;
@@ -91,10 +98,18 @@ static void take_back(const struct written *one) {
     if (lose_odd && lose_even && ftruncate(one->file, one->length) < 0) abort();
 }
 
+// Whether the sector of this number is lost, of so many.
+static int is_lost(unsigned long number, unsigned long count) {
+    if (drawn_by) return (number * 2654435761ul + drawn_by * 40503ul) * 2246822519ul >> 17 & 1;
+    if (lose_first || lose_last) return number > count / 2 ? lose_last : lose_first;
+    return number % 2 ? lose_odd : lose_even;
+}
+
 static void forget(int back) {
+    unsigned long count = unsynced ? (unsigned long)unsynced->number : 0;
     while (unsynced) {
         struct written *one = unsynced;
-        if (back && (one->number % 2 ? lose_odd : lose_even)) take_back(one);
+        if (back && is_lost((unsigned long)one->number, count)) take_back(one);
         unsynced = one->before;
         if (!unsynced || unsynced->file != one->file) close(one->file);
         free(one);
@@ -117,7 +132,7 @@ ssize_t pwrite64(int file, const void *bytes, size_t size, off_t at) {
     trace("write", at, size);
     int failed = fails();
     if (failed && !late) return -1;
-    for (size_t sector = 0; (lose_odd || lose_even) && sector < size; sector += SECTOR) note(file, at + (off_t)sector);
+    for (size_t sector = 0; loses && sector < size; sector += SECTOR) note(file, at + (off_t)sector);
     ssize_t done = write_at(file, bytes, size, at);
     if (failed) errno = EIO;
     return failed ? -1 : done;
@@ -125,24 +140,18 @@ ssize_t pwrite64(int file, const void *bytes, size_t size, off_t at) {
 
 ssize_t pwrite(int file, const void *bytes, size_t size, off_t at) { return pwrite64(file, bytes, size, at); }
 
-static int synced(int answer) {
+static int synced(const char *call, int file) {
+    int (*next)(int) = dlsym(RTLD_NEXT, call);
+    trace("sync", 0, 0);
+    if (fails()) return -1;
+    int answer = is_set("FAIL_SYNCS", "no") ? 0 : next(file);
     if (answer == 0) forget(0);
     return answer;
 }
 
-int fsync(int file) {
-    static int (*next)(int);
-    if (!next) next = dlsym(RTLD_NEXT, "fsync");
-    trace("sync", 0, 0);
-    return fails() ? -1 : synced(next(file));
-}
+int fsync(int file) { return synced("fsync", file); }
 
-int fdatasync(int file) {
-    static int (*next)(int);
-    if (!next) next = dlsym(RTLD_NEXT, "fdatasync");
-    trace("sync", 0, 0);
-    return fails() ? -1 : synced(next(file));
-}
+int fdatasync(int file) { return synced("fdatasync", file); }
 
 __attribute__((destructor)) static void report(void) {
     forget(1);

@@ -25,9 +25,9 @@ makes() {
   "$program" create t --limit 10000 $([ "$1" = 2 ] && echo --v2) && "$program" load t < load || wrong "no file of version $1"
 }
 
-# The reads that were made more than once. An opening for writing reads the commit sector twice: it writes it back before its first sync, and
-# reads it behind that.
-again() { grep ^read trace | sed '0,/^read 0 512$/{/^read 0 512$/d}' | sort | uniq -d; }
+# The reads that were made more than once, but for those of the commit sector, which an opening for writing reads before it writes it back, and
+# behind its first sync.
+again() { grep ^read trace | grep -vx 'read 0 512' | sort | uniq -d; }
 
 # is_read_once WHO: no place of the file was read twice, and about as many as it has pages were
 is_read_once() {

@@ -20,7 +20,7 @@ some of them stand for the rest.
 acknowledged, and of the others by none but those that may have happened: calls that were answered with fault 2, and the first
 ones of those that have no answer yet. What a fetch has found of these has to stay, since the file was open for writing.
 
-Some images with an armed commit sector are put into the folder KEPT, as folders in which a log may begin. The status is 1 where
+Some images whose commit sector is armed or names a log are put into the folder KEPT, as folders in which a log may begin. The status is 1 where
 an image is wrong.
 """
 import collections
@@ -36,7 +36,7 @@ import sys
 import tempfile
 
 SECTOR, BLOCK = 512, 8
-BLANK, ARMED = bytes(SECTOR), bytes([0, 0, 0, 1])
+BLANK, ARMED, LOGGING = bytes(SECTOR), bytes([0, 0, 0, 1]), bytes([0, 0, 0, 2])
 # of many sectors, how many are chosen alone; how many images are chosen at random
 FEW, AT_RANDOM = 4, 2
 # each which image is kept, and how many wrong ones are told
@@ -295,7 +295,7 @@ class Judge:
         names = []
         for chosen in selections(disk.choices(), number):
             names.append(self.reader.ask(disk.word_with(chosen), lambda it=chosen: disk.image_with(it)))
-            self.armed += chosen.get(0, disk.has(0))[8:12] == ARMED
+            self.armed += chosen.get(0, disk.has(0))[8:12] in (ARMED, LOGGING)
             if self.armed == KEPT_EACH:
                 self.armed = 0
                 self.chosen.append((names[-1], disk.image_with(chosen), calls.may_be()))

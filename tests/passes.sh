@@ -44,9 +44,9 @@ sed 's/^/F /' keys | "$program" script segments | sort | uniq -c | xargs > repli
 sed -n 's/.*[02468ace]$/F &/p' keys | "$program" script segments | uniq -c | xargs > replies
 [ "$(cat replies)" = '2033 .' ] || wrong 'an even key is lost'
 
-# The calls of the system of an opening: the commit sector, read and written back; a sync, and reads of the commit sector and of the meta page. A
+# The calls of the system of an opening: the commit sector, read twice and written back; a sync, and reads of the commit sector and of the meta page. A
 # firstkey and a fetch read the segment page and a head page, and what comes behind in the pass the other head page.
-opening=5
+opening=6
 "$program" create nine --limit 100 || exit 1
 for digit in 1 2 3 4 5 6 7 8 9; do echo "6$digit 0$digit"; done | "$program" load nine || exit 1
 # fails_at CALL HOW LINES REPLIES: a script on the nine pairs with that call failed so; `/` stands for the end of a line

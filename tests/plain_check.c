@@ -5,6 +5,8 @@
 
 enum { PAGE = 2048, CAPACITY = 273001992 / 4, META = 1, SEGMENT = 2, HEAD = 3, OVERFLOW = 4, FREE = 5, CONTENT = 6 };
 enum { FAR = 0x8000, MOST_NEAR = 2026, MOST_FAR_KEY = 1023, PART = PAGE - 16 };
+enum { SECTOR = 512, SLOT = 64 * SECTOR, LOG_PAGES = 32, MOST_LOGGED = 15 };
+enum { CLEAR = 0, ARMED = 1, LOGGING = 2 };
 
 typedef struct { const unsigned char *bytes; size_t size; } Key;
 
@@ -132,32 +134,97 @@ static int is_good(File *file) {
     return 1;
 }
 
-// Page n of the bytes, with zeros behind their end.
-static void copy_page(unsigned char *into, const unsigned char *bytes, size_t size, uint32_t n) {
-    size_t from = (size_t)n * PAGE, there = from >= size ? 0 : size - from < PAGE ? size - from : PAGE;
-    memset(into, 0, PAGE);
+// So many of the bytes, with zeros behind their end.
+static void copy_part(unsigned char *into, const unsigned char *bytes, size_t size, size_t from, size_t wanted) {
+    size_t there = from >= size ? 0 : size - from < wanted ? size - from : wanted;
+    memset(into, 0, wanted);
     if (there > 0) memcpy(into, bytes + from, there);
 }
 
-// The pages of the file, with those of an armed commit in their places.
-static int is_settled(File *file, const unsigned char *bytes, size_t size) {
-    unsigned char first[PAGE], image[PAGE];
-    copy_page(first, bytes, size, 0);
-    uint32_t armed = four(first + 8), start = four(first + 16), count = four(first + 20), least = 1;
-    file->end = four(first + 12);
-    if (memcmp(first, "DBMREDO1", 8) || armed > 1 || file->end < 4 || file->end > CAPACITY || !are_zero(first, 24, 512)) return 0;
-    if (armed ? start < file->end || count < 1 || (uint64_t)start + count > CAPACITY : start || count) return 0;
-    if (file->end > size / PAGE + 2) return 0; // a page of zeros is none
-    file->pages = calloc(file->end, PAGE);
-    for (uint32_t n = 1; n < file->end; n++) copy_page(file->pages + (size_t)n * PAGE, bytes, size, n);
-    for (uint32_t i = 0; armed && i < count; i++) {
-        copy_page(image, bytes, size, start + i);
-        uint32_t own = four(image);
-        if (own < least || own >= file->end) return 0;
-        memcpy(file->pages + (size_t)own * PAGE, image, PAGE);
+static void copy_page(unsigned char *into, const unsigned char *bytes, size_t size, uint32_t n) {
+    copy_part(into, bytes, size, (size_t)n * PAGE, PAGE);
+}
+
+// The commit that a slot of a log says, of which the number is 0 where it says none.
+typedef struct { uint32_t number, count, end; unsigned char pages[MOST_LOGGED * PAGE]; } Commit;
+
+static int is_commit(Commit *commit, const unsigned char *slot, uint32_t start) {
+    uint32_t least = 1;
+    commit->number = four(slot), commit->count = four(slot + 4), commit->end = four(slot + 8);
+    if (commit->number < 1 || commit->count < 1 || commit->count > MOST_LOGGED || commit->end < 4 || commit->end > start) return 0;
+    for (uint32_t k = 0; k < 4 * commit->count; k++) {
+        const unsigned char *sector = slot + SECTOR * (1 + k);
+        if (four(sector) != commit->number) return 0;
+        memcpy(commit->pages + SECTOR * k, sector, SECTOR);
+        memcpy(commit->pages + SECTOR * k, slot + 16 + 4 * k, 4);
+    }
+    for (uint32_t i = 0; i < commit->count; i++) {
+        uint32_t own = four(commit->pages + PAGE * i);
+        if (own < least || own >= commit->end) return 0;
         least = own + 1;
     }
     return 1;
+}
+
+static void read_slot(Commit *commit, const unsigned char *bytes, size_t size, uint32_t start, int which) {
+    unsigned char slot[SLOT];
+    copy_part(slot, bytes, size, (size_t)start * PAGE + (size_t)which * SLOT, SLOT);
+    if (!is_commit(commit, slot, start)) memset(commit, 0, sizeof *commit);
+}
+
+// The pages of the file in their own places.
+static int has_pages(File *file, const unsigned char *bytes, size_t size) {
+    if (file->end > size / PAGE + 2) return 0; // a page of zeros is none
+    file->pages = calloc(file->end, PAGE);
+    for (uint32_t n = 1; n < file->end; n++) copy_page(file->pages + (size_t)n * PAGE, bytes, size, n);
+    return 1;
+}
+
+static void put_page(File *file, const unsigned char *page) {
+    if (four(page) < file->end) memcpy(file->pages + (size_t)four(page) * PAGE, page, PAGE);
+}
+
+// The pages of the file, with those of a log over them: of the older commit, and then of the newer one.
+static int is_logged(File *file, const unsigned char *bytes, size_t size, uint32_t start) {
+    Commit slots[2];
+    for (int which = 0; which < 2; which++) read_slot(&slots[which], bytes, size, start, which);
+    int newer = slots[0].number > slots[1].number ? 0 : 1;
+    file->end = slots[newer].end;
+    if (slots[newer].number == 0 || !has_pages(file, bytes, size)) return 0;
+    const Commit *in_order[2] = {&slots[1 - newer], &slots[newer]};
+    for (int at = 0; at < 2; at++)
+        for (uint32_t i = 0; i < in_order[at]->count; i++) put_page(file, in_order[at]->pages + PAGE * i);
+    return 1;
+}
+
+// The pages of the file, with so many redo images in their places.
+static int is_redone(File *file, const unsigned char *bytes, size_t size, uint32_t start, uint32_t count) {
+    unsigned char image[PAGE];
+    uint32_t least = 1;
+    if (!has_pages(file, bytes, size)) return 0;
+    for (uint32_t i = 0; i < count; i++) {
+        copy_page(image, bytes, size, start + i);
+        uint32_t own = four(image);
+        if (own < least || own >= file->end) return 0;
+        put_page(file, image);
+        least = own + 1;
+    }
+    return 1;
+}
+
+// The pages of the file, with those of the last commits in their places.
+static int is_settled(File *file, const unsigned char *bytes, size_t size) {
+    unsigned char first[SECTOR];
+    copy_part(first, bytes, size, 0, SECTOR);
+    int may_log = !memcmp(first, "DBMREDO2", 8);
+    uint32_t state = four(first + 8), start = four(first + 16), count = four(first + 20);
+    file->end = four(first + 12);
+    if ((!may_log && memcmp(first, "DBMREDO1", 8)) || file->end < 4 || file->end > CAPACITY || !are_zero(first, 24, SECTOR)) return 0;
+    if (state == CLEAR) return start == 0 && count == 0 && has_pages(file, bytes, size);
+    if (start < file->end) return 0;
+    if (state == ARMED) return count >= 1 && (uint64_t)start + count <= CAPACITY && is_redone(file, bytes, size, start, count);
+    if (state != LOGGING || !may_log || count != 0 || (uint64_t)start + LOG_PAGES > CAPACITY) return 0;
+    return is_logged(file, bytes, size, start);
 }
 
 long plain_pairs(const unsigned char *bytes, size_t size) {

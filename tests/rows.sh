@@ -462,7 +462,7 @@ for command in $commands; do
 done
 for command in $commands; do
   runs "$command" --help
-  [ "$status" = 0 ] && grep -q "Usage: dbmtool $command " out && sed '1,/^Example:/d' out | grep -q "dbmtool $command " ||
+  [ "$status" = 0 ] && grep -q "Usage: dbmtool $command " out && sed -E '1,/^Examples?:/d' out | grep -q "dbmtool $command " ||
     wrong "the help of $command"
 done
 for line in 'S KEY CONTENT' 'I KEY CONTENT' 'F KEY' 'D KEY' 1 N E C; do

@@ -5,16 +5,16 @@
 . "$(dirname "$0")/common"
 preloadable fail
 
-# An opening that settles nothing reads the commit sector and writes it back; then a sync, and reads of the commit sector and of the meta page. The
+# An opening that settles nothing reads the commit sector twice and writes it back; then a sync, and reads of the commit sector and of the meta page. The
 # store looks its key up in two pages, and commits four: their redo images, a sync, the commit sector, a sync. The closing writes as much again.
-opening=$((2 + 3))
+opening=$((3 + 3))
 commit=$((opening + 2))
 arming=$((commit + 4 + 1 + 1))
 stored=$((arming + 1))
 closed=$((stored + 4 + 1 + 1 + 1))
-# One that settles such a commit: the commit sector, read and written back; a sync and the commit sector; each image, to check it; each again, and
+# One that settles such a commit: the commit sector, read twice and written back; a sync and the commit sector; each image, to check it; each again, and
 # its page; a sync, the commit sector and a sync; the meta page.
-recovery=$((2 + 1 + 1 + 4 + 2 * 4 + 1 + 1 + 1 + 1))
+recovery=$((3 + 1 + 1 + 4 + 2 * 4 + 1 + 1 + 1 + 1))
 
 "$program" create t8 --limit 100 || exit 1
 for digit in 1 2 3 4 5 6 7 8; do echo "6$digit 0$digit"; done | "$program" load t8 || exit 1

@@ -115,15 +115,15 @@ if "${as[@]}" test -r t.db && ! "${as[@]}" test -w t.db; then refused 2 t; else 
 as=() tool=$program
 chmod 644 t.db && is_file 1 || wrong "a refused upgrade changed the file"
 
-# ---- cut short. An opening that settles nothing: the commit sector, read and written back; a sync, and reads of the commit sector and of the meta
+# ---- cut short. An opening that settles nothing: the commit sector, read twice and written back; a sync, and reads of the commit sector and of the meta
 # page. The upgrade writes one redo image, syncs, writes the commit sector and syncs. The closing writes the page, syncs, writes the commit
 # sector and syncs.
-opening=5
+opening=6
 arming=$((opening + 1 + 1 + 1))
 closed=$((arming + 1 + 1 + 1 + 1 + 1))
-# An opening that settles it: the commit sector, read and written back; a sync and the commit sector; the image, to check it; the image again, and
+# An opening that settles it: the commit sector, read twice and written back; a sync and the commit sector; the image, to check it; the image again, and
 # its page; a sync, the commit sector and a sync; the meta page.
-recovery=$((2 + 1 + 1 + 1 + 2 + 1 + 1 + 1 + 1))
+recovery=$((3 + 1 + 1 + 1 + 2 + 1 + 1 + 1 + 1))
 
 # traced WORD..: the calls of the system of a command on t.db
 traced() {
@@ -131,10 +131,10 @@ traced() {
   FAIL_TRACE=trace LD_PRELOAD=./fail.so "$program" "$@" < /dev/null > out 2> err || wrong "$*: status $?"
 }
 traced upgrade t
-printf '%s\n' 'read 0 512' 'write 0 512' sync 'read 0 512' 'read 2048 2048' 'write 14336 2048' sync 'write 0 512' sync 'write 2048 2048' sync 'write 0 512' sync |
+printf '%s\n' 'read 0 512' 'read 0 512' 'write 0 512' sync 'read 0 512' 'read 2048 2048' 'write 14336 2048' sync 'write 0 512' sync 'write 2048 2048' sync 'write 0 512' sync |
   cmp - trace || wrong "an upgrade makes other calls"
 traced upgrade t
-printf '%s\n' 'read 0 512' 'write 0 512' sync 'read 0 512' 'read 2048 2048' | cmp - trace || wrong "an upgrade of a file of version 2 makes other calls"
+printf '%s\n' 'read 0 512' 'read 0 512' 'write 0 512' sync 'read 0 512' 'read 2048 2048' | cmp - trace || wrong "an upgrade of a file of version 2 makes other calls"
 
 # number PLACE: a number of t.db
 number() { od -An -tu4 --endian=big -j "$1" -N 4 t.db | tr -d ' '; }

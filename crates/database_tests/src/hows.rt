@@ -1,7 +1,7 @@
 //! How a database is opened, as text, and tables of openings that are refused: a line is an opening,
 //! an arrow and its fault, as `truncate 0 -> BadLimit`.
 
-use dbm_file::{Access, Fault, OpenHow, Version};
+use dbm_file::{Access, CommitKind, Fault, OpenHow, Version};
 use std::alloc::{AllocError, Global};
 use std::test::Fail;
 
@@ -13,6 +13,7 @@ pub const PLAIN: OpenHow = OpenHow {
     truncate: false,
     limit: 0,
     version: Version::V1,
+    commits: CommitKind::Images,
     kept_pages: None,
 };
 
@@ -27,6 +28,7 @@ pub fn how_of(text: &str) -> Result<OpenHow, Fail> {
             "exclusive" => how.exclusive = true,
             "truncate" => how.truncate = true,
             "v2" => how.version = Version::V2,
+            "log" => how.commits = CommitKind::Log,
             "plain" => {}
             _ => how.limit = word.parse()?,
         }

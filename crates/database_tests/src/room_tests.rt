@@ -1,6 +1,6 @@
 //! Databases on devices that just suffice for their limits.
 
-use dbm_file::{Access, Database, Db, Fault, OpenHow, Version};
+use dbm_file::{Access, CommitKind, Database, Db, Fault, OpenHow, Version};
 use page_io::PageStore;
 use sect_dev::MemDev;
 use std::alloc::Global;
@@ -36,6 +36,7 @@ fn emptied(alloc: Global, dev: MemDev, limit: u8) -> Result<Db<MemDev>, Fault> {
         truncate: true,
         limit: u32::from(limit),
         version: Version::V1,
+        commits: CommitKind::Images,
         kept_pages: None,
     };
     open(alloc, dev, how)

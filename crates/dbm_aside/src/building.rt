@@ -8,7 +8,7 @@ use crate::naming::{Names, found_at, names_of};
 use crate::stop::Stop;
 use crate::verified::{Verified, opened};
 use dbm_fault::EngineFault;
-use dbm_file::{Access, Db, Fault, OpenHow, Version, open_named};
+use dbm_file::{Access, CommitKind, Db, Fault, OpenHow, Version, open_named};
 use dbm_progress::Progress;
 use sect_dev::FileDev;
 use std::alloc::Global;
@@ -83,13 +83,18 @@ fn start<T: Files<File = File>>(
 ) -> Result<(Db<FileDev>, Db<FileDev>, File, u32), Stop>
     ensures { IfErr result (λ stop. IsOfDatabase stop.fault) }
 {
-    let old = open_named(rt, alloc, file, how(Access::ReadOnly, 0, Version::V1))?;
+    let old = open_named(
+        rt,
+        alloc,
+        file,
+        how(Access::ReadOnly, 0, Version::V1, CommitKind::Images),
+    )?;
     let mode = own_as_old(rt, names, &aside)?;
     let limit = limit.unwrap_or(old.stat().limit);
     let new = opened(
         alloc,
         aside.dev,
-        how(Access::ReadWrite, limit, old.version()),
+        how(Access::ReadWrite, limit, old.version(), old.commit_kind()),
     )?;
     Ok((old, new, aside.made, mode))
 }
@@ -102,7 +107,7 @@ fn own_as_old<T: Files<File = File>>(rt: &T, names: &Names, aside: &Aside) -> io
 }
 
 /// For writing a new database is made.
-fn how(access: Access, limit: u32, version: Version) -> OpenHow {
+fn how(access: Access, limit: u32, version: Version, commits: CommitKind) -> OpenHow {
     let create = access.is_writable();
     OpenHow {
         access,
@@ -111,6 +116,7 @@ fn how(access: Access, limit: u32, version: Version) -> OpenHow {
         truncate: false,
         limit,
         version,
+        commits,
         kept_pages: None,
     }
 }

@@ -9,7 +9,7 @@ use crate::looking::look_through;
 use crate::naming::{is_under, sync_folder};
 use crate::stop::Stop;
 use dbm_fault::EngineFault;
-use dbm_file::{Access, Database, Db, OpenHow, Version};
+use dbm_file::{Access, CommitKind, Database, Db, OpenHow, Version};
 use dbm_progress::Progress;
 use page_cache::CachedPages;
 use page_io::PageStore;
@@ -121,6 +121,7 @@ fn open_table(alloc: Global, dev: FileDev) -> Result<Db<FileDev>, Stop>
         truncate: false,
         limit: 0,
         version: Version::V1,
+        commits: CommitKind::Images,
         kept_pages: None,
     };
     opened(alloc, dev, how)

@@ -11,6 +11,10 @@ use Rattle.dbm_command_line.specs.declared.plan.Source.{Source}
 use Rattle.dbm_command_line.specs.declared.plan.Source.TheVariants.{File, Memory}
 use Rattle.dbm_command_line.specs.declared.plan.Spelling.{Spelling}
 use Rattle.dbm_command_line.specs.declared.plan.Spelling.TheVariants as spelling
+use Rattle.dbm_command_line.specs.declared.plan.Commits as kinds
+use Rattle.dbm_command_line.specs.declared.plan.Commits.TheVariants.{Images, Log}
+use Rattle.dbm_command_line.specs.declared.plan.Upgrade as changes
+use Rattle.dbm_command_line.specs.declared.plan.Upgrade.TheVariants.{Version2, Commits}
 use Rattle.dbm_command_line.specs.declared.plan.Version.{Version}
 use Rattle.dbm_command_line.specs.declared.plan.Version.TheVariants.{V1, V2}
 
@@ -57,6 +61,22 @@ v2_flag V2 = codes "true"
 -- `--v2` was given where the version is 2, and not where it is 1
 abbrev pub IsVersion : List Row → Version → Type 0
 IsVersion rows version = one_of (codes "v2") rows ≡ Some (v2_flag version)
+
+-- so many syncs has each of commits in a row
+abbrev pub syncs_of : kinds.Commits → ℕ
+syncs_of Log = 1
+syncs_of Images = 2
+
+-- `--syncs` has the number for them, or wasn't given where they are made by redo images
+abbrev pub AreNewCommits : List Row → kinds.Commits → Type 0
+AreNewCommits rows Log = IsNumberText rows (codes "syncs") 1
+AreNewCommits rows Images =
+    (first_of (codes "syncs") rows ≡ None) ⊎ IsNumberText rows (codes "syncs") 2
+
+-- `--syncs` was given where the commits are to be made otherwise, and not where the version is
+abbrev pub IsUpgrade : List Row → changes.Upgrade → Type 0
+IsUpgrade rows Version2 = first_of (codes "syncs") rows ≡ None
+IsUpgrade rows (Commits commits) = IsNumberText rows (codes "syncs") (syncs_of commits)
 
 -- `--text` was given where the lines are text, and not where they have hexadecimal words
 abbrev pub IsForm : List Row → Spelling → Type 0
@@ -115,9 +135,10 @@ LacksReplace rows = (is_some (first_of (codes "limit") rows) ≡ true) × IsRepl
 
 -- the command of this name, with what was entered for it, asks for the plan
 abbrev pub Asks : Text → List Row → Plan → Type 0
-Asks name rows (Create file limit version) =
+Asks name rows (Create file limit version commits) =
     (name ≡ codes "create") × IsText rows (codes "file") file.now
     × IsNumberText rows (codes "limit") limit × IsVersion rows version
+    × AreNewCommits rows commits
 Asks name rows (Store file key content spelled) =
     (name ≡ codes "store") × IsPair rows file.now key.now content.now spelled
 Asks name rows (Insert file key content spelled) =
@@ -141,7 +162,8 @@ Asks name rows (Backup file to) = (name ≡ codes "backup")
 Asks name rows (Salvage file) = (name ≡ codes "salvage") × IsText rows (codes "file") file.now
 Asks name rows (Stat file) = (name ≡ codes "stat") × IsText rows (codes "file") file.now
 Asks name rows (Verify file) = (name ≡ codes "verify") × IsText rows (codes "file") file.now
-Asks name rows (Upgrade file) = (name ≡ codes "upgrade") × IsText rows (codes "file") file.now
+Asks name rows (Upgrade file to) = (name ≡ codes "upgrade")
+    × IsText rows (codes "file") file.now × IsUpgrade rows to
 Asks name rows (Script source spelled) = (name ≡ codes "script") × IsSource rows source
     × IsForReading rows false × IsForm rows spelled
 Asks name rows (ReadScript file spelled) = (name ≡ codes "script") × IsSource rows (File file)

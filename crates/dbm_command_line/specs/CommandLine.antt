@@ -33,6 +33,13 @@ stops_rule = record (number_rule (codes "stops")) {
       Some (parser.Signed (pos 1) (pos 4294967295));
 }
 
+-- `--syncs N`, and N 1 or 2
+abbrev pub syncs_rule : Rule
+syncs_rule = record (number_rule (codes "syncs")) {
+  parser =
+      Some (parser.Signed (pos 1) (pos 2));
+}
+
 -- `-x`
 abbrev pub hexadecimal_rule : Rule
 hexadecimal_rule = record (new_rule (codes "hexadecimal")) {
@@ -105,6 +112,10 @@ abbrev pub load_line : Shape
 load_line = line (codes "load") (word_rule (codes "file") ∷ text_rule ∷ group_rule ∷ replace_rule
     ∷ number_rule (codes "limit") ∷ [])
 
+-- `upgrade FILE [--syncs N]`
+abbrev pub upgrade_line : Shape
+upgrade_line = line (codes "upgrade") (word_rule (codes "file") ∷ syncs_rule ∷ [])
+
 -- `resize FILE [--limit N]`
 abbrev pub resize_line : Shape
 resize_line = line (codes "resize") (word_rule (codes "file") ∷ number_rule (codes "limit") ∷ [])
@@ -123,13 +134,13 @@ abbrev pub pair_line : Text → Shape
 pair_line name = line name (word_rule (codes "file") ∷ word_rule (codes "key") ∷ hexadecimal_rule
     ∷ word_rule (codes "content") ∷ [])
 
--- `create FILE [--limit N] [--v2]`
+-- `create FILE [--limit N] [--v2] [--syncs N]`
 abbrev pub create_line : Shape
 create_line = line (codes "create")
     (word_rule (codes "file") ∷ record (number_rule (codes "limit")) {
       defaults =
           codes "1000000" ∷ [];
-    } ∷ version_rule ∷ [])
+    } ∷ version_rule ∷ syncs_rule ∷ [])
 
 -- `script [FILE] [--memory N] [--v2] [--read] [--text]`
 abbrev pub script_line : Shape
@@ -163,7 +174,7 @@ command_line = record {
   subs = create_line ∷ pair_line (codes "store") ∷ pair_line (codes "insert")
       ∷ key_line (codes "fetch") ∷ key_line (codes "delete")
       ∷ pairs_line (codes "list") ∷ pairs_line (codes "dump") ∷ load_line
-      ∷ file_line (codes "stat") ∷ file_line (codes "verify") ∷ file_line (codes "upgrade")
+      ∷ file_line (codes "stat") ∷ file_line (codes "verify") ∷ upgrade_line
       ∷ resize_line ∷ backup_line ∷ file_line (codes "salvage")
       ∷ script_line ∷ rehearse_line ∷ faults_line ∷ [];
 }

@@ -1,10 +1,10 @@
 // The words and options that commands take.
 ghost use Rattle.dbm_command_line.specs.Building.{IsRule};
-ghost use Rattle.dbm_command_line.specs.CommandLine.{cache_rule, group_rule, hexadecimal_rule, number_rule, read_rule, replace_rule, stops_rule, text_rule, verbose_rule, version_rule, wait_rule, word_rule};
+ghost use Rattle.dbm_command_line.specs.CommandLine.{cache_rule, group_rule, hexadecimal_rule, number_rule, read_rule, replace_rule, stops_rule, syncs_rule, text_rule, verbose_rule, version_rule, wait_rule, word_rule};
 
 use crate::names::{
-    CACHE, GROUP, HEXADECIMAL, LONGEST_WAIT, MOST_KEPT, MOST_LINES, READ, REPLACE, STOPS, TEXT, V2,
-    VERBOSE, WAIT,
+    CACHE, GROUP, HEXADECIMAL, LONGEST_WAIT, MOST_KEPT, MOST_LINES, READ, REPLACE, STOPS, SYNCS,
+    TEXT, V2, VERBOSE, WAIT,
 };
 use clap::{Arg, ArgAction, value_parser};
 use std::alloc::Global;
@@ -53,6 +53,17 @@ pub fn stops<'a>(alloc: Global) -> Arg<'a>
         .value_name("N")
         .value_parser(value_parser!(u32).range(1..=i64::from(u32::MAX)))
         .help("Stop N times at most, spread evenly, and not before each read, write and sync")
+}
+
+/// The option `--syncs`, whose value is 1 or 2, of a command that makes a database or changes one.
+pub fn syncs<'a>(alloc: Global, help: &'a str) -> Arg<'a>
+    ensures { IsRule result syncs_rule }
+{
+    Arg::new(alloc, SYNCS)
+        .long(SYNCS)
+        .value_name("N")
+        .value_parser(value_parser!(u32).range(1..=2))
+        .help(help)
 }
 
 /// The flag `-x`.

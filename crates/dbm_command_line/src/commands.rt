@@ -1,11 +1,11 @@
 // The commands.
 ghost use Rattle.std.specs.Prelude.{IfOk, codes};
 ghost use Rattle.dbm_command_line.specs.Building.{Adds, IsApp, alone};
-ghost use Rattle.dbm_command_line.specs.CommandLine.{backup_line, command_line, create_line, faults_line, file_line, key_line, load_line, pair_line, pairs_line, program_line, rehearse_line, resize_line, script_line};
+ghost use Rattle.dbm_command_line.specs.CommandLine.{backup_line, command_line, create_line, faults_line, file_line, key_line, load_line, pair_line, pairs_line, program_line, rehearse_line, resize_line, script_line, upgrade_line};
 
 use crate::arguments::{
-    cache, for_reading, group, hexadecimal, number, replace, stops, text_form, verbose, version,
-    wait, word,
+    cache, for_reading, group, hexadecimal, number, replace, stops, syncs, text_form, verbose,
+    version, wait, word,
 };
 use crate::help_text::fault_table;
 use crate::names::{
@@ -25,6 +25,12 @@ const FILE_HELP: &str = "The name of the database, without `.db`";
 
 const CREATE_V2_HELP: &str =
     "Version 2 of the format: contents of up to 65535 bytes, under keys of up to 1023";
+
+const CREATE_SYNCS_HELP: &str =
+    "How many syncs each of many stores takes: 2, or 1 by a log, which programs from before can't open";
+
+const UPGRADE_SYNCS_HELP: &str =
+    "Leave the version, and have each of many stores take 1 sync by a log, or 2 again without one";
 
 const MEMORY_V2_HELP: &str = "With --memory: a database of version 2 of the format";
 
@@ -111,7 +117,8 @@ fn create_command<'a>(alloc: Global) -> Result<Command<'a>, AllocError>
         "Example:\n  dbmtool create colors --limit 1000",
     )?
     .arg(limit.default_value("1000000"))?
-    .arg(version(alloc, CREATE_V2_HELP))
+    .arg(version(alloc, CREATE_V2_HELP))?
+    .arg(syncs(alloc, CREATE_SYNCS_HELP))
 }
 
 fn store_command<'a>(alloc: Global) -> Result<Command<'a>, AllocError>
@@ -225,14 +232,15 @@ fn verify_command<'a>(alloc: Global) -> Result<Command<'a>, AllocError>
 }
 
 fn upgrade_command<'a>(alloc: Global) -> Result<Command<'a>, AllocError>
-    ensures { IfOk result (λ c. IsApp c (alone (file_line (codes "upgrade")))) }
+    ensures { IfOk result (λ c. IsApp c (alone upgrade_line)) }
 {
     file_command(
         alloc,
         UPGRADE,
         "Makes a database one of version 2, which has contents of up to 65535 bytes",
-        "Example:\n  dbmtool upgrade colors",
-    )
+        "Examples:\n  dbmtool upgrade colors\n  dbmtool upgrade colors --syncs 1",
+    )?
+    .arg(syncs(alloc, UPGRADE_SYNCS_HELP))
 }
 
 fn resize_command<'a>(alloc: Global) -> Result<Command<'a>, AllocError>

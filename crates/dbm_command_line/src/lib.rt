@@ -15,6 +15,6 @@ mod words;
 
 pub use commands::command;
 pub use help_text::{FAULT_TABLE, fault_table};
-pub use plan::{Plan, Request, Source, Spelling, Version};
+pub use plan::{Commits, Plan, Request, Source, Spelling, Upgrade, Version};
 pub use seconds::seconds_in;
 pub use words::{WordsError, read_words};

@@ -61,6 +61,8 @@ pub const V2: &str = "v2";
 
 pub const STOPS: &str = "stops";
 
+pub const SYNCS: &str = "syncs";
+
 pub const GROUP: &str = "group";
 
 pub const READ: &str = "read";

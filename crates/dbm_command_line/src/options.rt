@@ -1,16 +1,17 @@
 // The plan that a parse entered.
 ghost use Rattle.std.specs.Prelude.{◌≡◌, ◌⊎◌, IfErr, IfOk, IfSome, MatchOption, None, Some, codes};
 ghost use Rattle.clap.specs.Words.{first_of, found_of, one_of, rows_of, subcommand_rows_of};
-ghost use Rattle.dbm_command_line.specs.Asking.{AreOptions, Asks, IsForReading, IsForm, IsGroup, IsNumberText, IsOptional, IsReplacing, IsSource, IsText, IsVerbose, IsVersion, IsWithin, LacksFile, LacksMemory, LacksReplace, LacksSource, Names, NamesNoFile, NamesNoMemory, NamesNoReplace, NamesNoSource, flag_text};
+ghost use Rattle.dbm_command_line.specs.Asking.{AreNewCommits, AreOptions, Asks, IsForReading, IsForm, IsGroup, IsNumberText, IsOptional, IsReplacing, IsSource, IsText, IsVerbose, IsUpgrade, IsVersion, IsWithin, LacksFile, LacksMemory, LacksReplace, LacksSource, Names, NamesNoFile, NamesNoMemory, NamesNoReplace, NamesNoSource, flag_text, syncs_of};
 ghost use Rattle.dbm_command_line.specs.Sorting.{IsOfChoice};
 
 use crate::WordsError;
 use crate::names::{
     BACKUP, CACHE, CONTENT, CREATE, DELETE, DUMP, FAULTS, FETCH, FILE, GROUP, HEXADECIMAL, INSERT,
     KEY, LIMIT, LIST, LOAD, LONGEST_WAIT, MEMORY, MOST_KEPT, MOST_LINES, READ, REHEARSE, REPLACE,
-    RESIZE, SALVAGE, SCRIPT, STAT, STOPS, STORE, TEXT, TO, UPGRADE, V2, VERBOSE, VERIFY, WAIT,
+    RESIZE, SALVAGE, SCRIPT, STAT, STOPS, STORE, SYNCS, TEXT, TO, UPGRADE, V2, VERBOSE, VERIFY,
+    WAIT,
 };
-use crate::plan::{Plan, Request, Source, Spelling, Version};
+use crate::plan::{Commits, Plan, Request, Source, Spelling, Upgrade, Version};
 use clap::ArgMatches;
 
 /// What the words ask for.
@@ -247,6 +248,37 @@ fn version(options: &ArgMatches<'_>) -> Option<Version>
     }
 }
 
+/// How commits are made that have so many syncs in a row.
+fn commits_of(syncs: u32) -> Option<Commits>
+    ensures { IfSome result (λ commits. syncs ≡ syncs_of commits) }
+{
+    match syncs {
+        1 => Some(Commits::Log),
+        2 => Some(Commits::Images),
+        _ => None,
+    }
+}
+
+/// How the commits of a new database are to be made.
+fn new_commits(options: &ArgMatches<'_>) -> Option<Commits>
+    ensures { IfSome result (AreNewCommits (rows_of (found_of options.now))) }
+{
+    match optional(options, SYNCS)? {
+        None => Some(Commits::Images),
+        Some(syncs) => commits_of(syncs),
+    }
+}
+
+/// What a database that is there is to be made.
+fn upgrade(options: &ArgMatches<'_>) -> Option<Upgrade>
+    ensures { IfSome result (IsUpgrade (rows_of (found_of options.now))) }
+{
+    match optional(options, SYNCS)? {
+        None => Some(Upgrade::Version2),
+        Some(syncs) => Some(Upgrade::Commits(commits_of(syncs)?)),
+    }
+}
+
 /// The plan of a command on a file.
 fn of_file<'a>(name: &str, options: &ArgMatches<'a>) -> Option<Plan<'a>>
     ensures { IfSome result (Asks name.now (rows_of (found_of options.now))) }
@@ -257,6 +289,7 @@ fn of_file<'a>(name: &str, options: &ArgMatches<'a>) -> Option<Plan<'a>>
             file,
             limit: number(options, LIMIT)?,
             version: version(options)?,
+            commits: new_commits(options)?,
         }),
         LIST => Some(Plan::List {
             file,
@@ -268,7 +301,10 @@ fn of_file<'a>(name: &str, options: &ArgMatches<'a>) -> Option<Plan<'a>>
         }),
         STAT => Some(Plan::Stat { file }),
         VERIFY => Some(Plan::Verify { file }),
-        UPGRADE => Some(Plan::Upgrade { file }),
+        UPGRADE => Some(Plan::Upgrade {
+            file,
+            to: upgrade(options)?,
+        }),
         RESIZE => Some(Plan::Resize {
             file,
             limit: optional(options, LIMIT)?,

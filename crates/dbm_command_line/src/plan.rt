@@ -24,6 +24,7 @@ pub enum Plan<'a> {
         /// How many pairs it may have.
         limit: u32,
         version: Version,
+        commits: Commits,
     },
     /// Store a pair, in the place of one with its key.
     Store {
@@ -99,9 +100,10 @@ pub enum Plan<'a> {
     Verify {
         file: &'a str,
     },
-    /// Make a database that is there one of version 2 of the format.
+    /// Make a database that is there another one, with the same pairs.
     Upgrade {
         file: &'a str,
+        to: Upgrade,
     },
     /// Run the script on standard input, of words, or as text, which has fields with escapes.
     Script {
@@ -143,6 +145,24 @@ pub enum Source<'a> {
         limit: u32,
         version: Version,
     },
+}
+
+/// What a database that is there is made.
+#[derive(Clone, Copy, Debug, PartialEq, Eq)]
+pub enum Upgrade {
+    /// One of version 2 of the format.
+    Version2,
+    /// One whose commits are made so.
+    Commits(Commits),
+}
+
+/// How the commits of a file are made.
+#[derive(Clone, Copy, Debug, PartialEq, Eq)]
+pub enum Commits {
+    /// By redo images, with two syncs each.
+    Images,
+    /// In a row by a log, with one sync each.
+    Log,
 }
 
 /// A version of the file format.

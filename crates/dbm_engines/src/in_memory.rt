@@ -8,7 +8,7 @@ ghost use Rattle.dbm_engines.specs.Scripts.{AnswersInMemory, asked};
 
 use crate::script_engine;
 use dbm_fault::EngineFault;
-use dbm_file::{Access, Db, Fault, OpenHow, Version, needed_sectors_of};
+use dbm_file::{Access, CommitKind, Db, Fault, OpenHow, Version, needed_sectors_of};
 use dbm_lines::TextForm;
 use sect_dev::MemDev;
 use std::alloc::Global;
@@ -78,6 +78,7 @@ fn new_in_memory(alloc: Global, limit: u32, version: Version) -> Result<Db<MemDe
         truncate: false,
         limit,
         version,
+        commits: CommitKind::Images,
         kept_pages: None,
     };
     match Db::open(alloc, MemDev::new(alloc, sectors), how) {

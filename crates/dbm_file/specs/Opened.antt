@@ -7,7 +7,8 @@ use Rattle.page_io.specs.Store.{blank}
 use Rattle.page_io.specs.Meaning.{ImageStandsFor}
 use Rattle.page_io.specs.declared.store.PageStore as store
 use Rattle.redo_area.specs.File.{settled}
-use Rattle.redo_area.specs.Pagers.{device_of}
+use Rattle.redo_area.specs.Pagers.{device_of, kind_at}
+use Rattle.redo_area.specs.declared.header.CommitKind.{CommitKind}
 use Rattle.redo_area.specs.declared.pager.Pager.{Pager}
 use Rattle.page_cache.specs.Stores.{store_below}
 use Rattle.page_cache.specs.declared.cached_pages.CachedPages.{CachedPages}
@@ -25,6 +26,12 @@ abbrev pub device_below : {D : Type 0} {bound : Ghosts D} {p : store.Ghosts (Pag
     {s : store.Ghosts (CachedPages (Pager D bound) p)}
     → Database (CachedPages (Pager D bound) p) s → D
 device_below db = device_of (store_below (store_of db))
+
+-- how the file's commits are made
+abbrev pub kind_below : {D : Type 0} {bound : Ghosts D} {p : store.Ghosts (Pager D bound)}
+    {s : store.Ghosts (CachedPages (Pager D bound) p)}
+    → Database (CachedPages (Pager D bound) p) s → CommitKind
+kind_below db = kind_at (store_below (store_of db))
 
 -- the device that an opening was given, whatever it answers
 abbrev pub device_opened : {D : Type 0} {bound : Ghosts D} {p : store.Ghosts (Pager D bound)}

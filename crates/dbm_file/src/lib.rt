@@ -26,4 +26,5 @@ pub use named::{FILE_SECTORS, Refusal, dbm_open, open_named, open_path, refuse_p
 pub use octets::Octets;
 pub use page_io::Version;
 pub use pair::Pair;
+pub use redo_area::CommitKind;
 pub use running::run;

@@ -14,7 +14,7 @@ ghost use Rattle.dbm_model.specs.States.{Handle};
 ghost use Rattle.dbm_file.specs.Database.{store_of, meta_kept, page_state, IsAt};
 ghost use Rattle.file_opening.specs.Opening.{writes, early_fault, IsRefusedOpening, AllAllow, MayRemain, AllStand, KeepsMeta, IsOpened};
 ghost use Rattle.page_cache.specs.Stores.{store_below, most_kept};
-ghost use Rattle.dbm_file.specs.Opened.{pages_kept, device_below, device_opened, AllHaveRoom, HasRoom, IsNewlyOpened, IsOpenedAt};
+ghost use Rattle.dbm_file.specs.Opened.{pages_kept, device_below, kind_below, device_opened, AllHaveRoom, HasRoom, IsNewlyOpened, IsOpenedAt};
 
 use crate::database::{Database, Db};
 use crate::pass::Pass;
@@ -23,7 +23,7 @@ use bucket_chain::{NearContent, RankedPage};
 use file_opening::open_file;
 use page_cache::CachedPages;
 use page_io::{Page, PageStore};
-use redo_area::Pager;
+use redo_area::{CommitKind, Pager};
 use sect_dev::SectorDev;
 use std::alloc::Global;
 use std::num::NonZeroUsize;
@@ -137,6 +137,13 @@ impl<D: SectorDev> Database<CachedPages<Pager<D>>> {
             }),
             Err(refused) => Err(refused),
         }
+    }
+
+    /// How the file's commits are made.
+    pub fn commit_kind(&self) -> CommitKind
+        ensures { result ≡ kind_below self.now }
+    {
+        self.store.inner().commit_kind()
     }
 
     /// The device below.

@@ -3,10 +3,9 @@
 ghost use Rattle.std.specs.Prelude.{◌≡◌, ◌≢◌, ◌⊎◌, ◌↔◌, ◌≤◌, ◌/◌, IfOk, IfErr, IfSome, None, Err, true, false};
 ghost use Rattle.dbm_model.specs.Bounds.{Bounds};
 ghost use Rattle.dbm_model.specs.Pairs.{Contents};
-ghost use Rattle.sect_dev.specs.Device.{IsImageOf, IsStable, LeavesOnly, MoreFaults, NoNewCandidate};
+ghost use Rattle.sect_dev.specs.Device.{IsStable, LeavesOnly, MoreFaults};
 ghost use Rattle.sect_dev.specs.Moments.{IsOutcome};
 ghost use Rattle.sect_dev.specs.Reads.{OnlyReads};
-ghost use Rattle.page_io.specs.Calls.{IsDeviceCall};
 ghost use Rattle.page_cache.specs.Stores.{most_kept};
 ghost use Rattle.redo_area.specs.File.{settled};
 ghost use Rattle.file_opening.specs.Opening.{writes, early_fault, IsRefusedOpening, AllAllow, MayRemain, AllStand, KeepsMeta, IsOpened};
@@ -16,41 +15,23 @@ ghost use Rattle.dbm_file.specs.Opened.{pages_kept, device_opened, AllHaveRoom, 
 use crate::database::{Database, Db};
 use crate::{Fault, OpenHow};
 use page_cache::CachedPages;
-use redo_area::{Header, Pager, read_header};
-use sect_dev::{DevFault, SectorDev};
+use redo_area::{Pager, write_back};
+use sect_dev::SectorDev;
 use std::alloc::Global;
 
 /// The sectors of the smallest file.
 const MIN_SECTORS: u32 = 16;
 
-/// Has the next sync write the commit sector of a file once more, with the bytes that a read gives.
-/// What is no file of ours is left as it is.
-fn write_back<D: SectorDev>(dev: &mut D) -> Result<(), DevFault>
-    requires { 16 ≤ D.sectors dev.old }
-    ensures any_moment { D.honest dev.old
-        → LeavesOnly D.moment D.left_since dev.old dev.new (IsImageOf (D.candidate dev.old)) }
-    ensures candidates { D.honest dev.old
-        → NoNewCandidate (D.candidate dev.old) (D.candidate dev.new) }
-    ensures device { IsDeviceCall D.SectorDev dev.old dev.new result }
-{
-    let capacity = dev.capacity() / 4;
-    let mut content = [0; 512];
-    dev.read(0, &mut content)?;
-    match read_header(capacity, &content) {
-        Header::Clear { .. } | Header::Armed { .. } => dev.write(0, &content),
-        Header::Blank | Header::NotOurs | Header::Damaged => Ok(()),
-    }
-}
-
 impl<D: SectorDev> Database<CachedPages<Pager<D>>> {
-    /// As `open`, of a device over a file. For writing, the commit sector is written back first, with
-    /// the bytes that it has, so that the first sync of the opening has it on the disk.
+    /// As `open`, of a device over a file. For writing, the commit sector is written back first, and a
+    /// log that it names, with the bytes that they have, so that the first sync of the opening has
+    /// them on the disk.
     ///
     /// A system may drop what it could not write, show it to reads all the same, and answer the next
-    /// sync with `Ok`; Linux does. So behind a sync that failed, a commit sector may be read that the
-    /// disk doesn't have, and what is built on it would not outlast a power cut. The redo images need
-    /// no such care, since a commit sector is written only once they are synced. On an honest device
-    /// the same bytes add nothing that a stop could leave.
+    /// sync with `Ok`; Linux does. So behind a sync that failed, a commit sector or a log may be read
+    /// that the disk doesn't have, and what is built on it would not outlast a power cut. The redo
+    /// images need no such care, since a commit sector is armed only once they are synced. On an
+    /// honest device the same bytes add nothing that a stop could leave.
     pub fn open_again(alloc: Global, dev: D, how: OpenHow) -> Result<Db<D>, (D, Fault)>
         ensures early { IfSome (early_fault how (D.sectors dev))
             (λ fault. result ≡ Err (dev, fault)) }

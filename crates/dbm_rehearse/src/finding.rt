@@ -10,7 +10,7 @@ use crate::bounds::Bounds;
 use crate::changes::Pairs;
 use dbm_engines::gather_pairs;
 use dbm_fault::EngineFault;
-use dbm_file::{Access, Database, Db, Fault, OpenHow};
+use dbm_file::{Access, CommitKind, Database, Db, Fault, OpenHow};
 use dbm_progress::Silent;
 use page_io::PageStore;
 use sect_dev::MemDev;
@@ -33,6 +33,7 @@ pub fn open_device(
         truncate: false,
         limit,
         version,
+        commits: CommitKind::Images,
         kept_pages: None,
     };
     match Db::open(alloc, dev, how) {

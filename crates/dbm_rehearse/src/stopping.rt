@@ -11,7 +11,7 @@ use crate::choices::{CHOICES, Choice, marks};
 use crate::finding::{engine_fault_of, open_device, pairs_in};
 use crate::report::{Outcome, Rehearsed};
 use dbm_fault::EngineFault;
-use dbm_file::{Call, Fault, Reply};
+use dbm_file::{Call, CommitKind, Fault, Reply};
 use dbm_progress::{Progress, Work};
 use rehearsal::{Ending, Opening, Stopped, stopped_session};
 use sect_dev::MemDev;
@@ -181,6 +181,7 @@ fn cut_session(
         truncate: false,
         limit,
         version,
+        commits: CommitKind::Images,
     };
     stopped_session(alloc, dev.crashed(alloc, keep)?, how, calls, &[], stop)
 }

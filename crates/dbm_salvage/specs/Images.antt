@@ -10,10 +10,6 @@ use Rattle.dbm_salvage.specs.Salvage.{ReadsAs}
 abbrev pub place : List ℕ → ℕ → ℕ
 place places n = if slice_index_or places n 0 == 0 then n else slice_index_or places n 0
 
--- the pages that an image has in these places
-unfoldable pub laid : List ℕ → Image → ℕ → List ℕ
-laid places image n = page_at image (place places n)
-
 -- each page of so many stands on the device
 abbrev pub AreOnDevice : List ℕ → ℕ → ℕ → Type 0
 AreOnDevice places pages sectors =

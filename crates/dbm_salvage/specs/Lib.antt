@@ -1,4 +1,5 @@
 pub mod Images
+pub mod Laid
 pub mod Reads
 pub mod Salvage
 pub mod Telling

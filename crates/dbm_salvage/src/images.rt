@@ -1,33 +1,58 @@
-//! Redo images, laid over the pages that they are images of.
+//! Redo images and the pages of a log, laid over the pages of a file.
 
-ghost use Rattle.std.specs.Prelude.{◌≡◌, ◌⊎◌, ◌+◌, ◌*◌, ◌≤◌, ◌<◌, ℕ, IfOk, IfErr, IfSome, IfNone, OnOk};
-ghost use Rattle.sect_dev.specs.Device.{IsImageOf, NoNewCandidate, LeavesOnly, MoreFaults};
-ghost use Rattle.page_io.specs.Calls.{IsDeviceCall};
-ghost use Rattle.dbm_salvage.specs.Images.{place, laid, AreOnDevice, IsImageFor, AreLaid};
+ghost use Rattle.std.specs.Prelude.{◌≡◌, ◌⊎◌, ◌+◌, ◌*◌, ◌^◌, ◌≤◌, ◌<◌, ℕ, [], true, IfOk, IfErr, IfSome, IfNone};
+ghost use Rattle.sect_dev.specs.Device.{MoreFaults};
+ghost use Rattle.page_io.specs.Store.{bytes_of, are_in_order};
+ghost use Rattle.dbm_salvage.specs.Images.{place, AreOnDevice, IsImageFor, AreLaid};
 ghost use Rattle.dbm_salvage.specs.Reads.{Looks};
 
 use crate::looks::reads_as;
-use page_io::{Page, read_page};
-use sect_dev::{DevFault, SectorDev};
+use page_io::{Page, StagedPages, read_page};
+use sect_dev::SectorDev;
 use std::alloc::{AllocError, Global};
 
-/// The redo images of a commit that a stop cut short, over the pages of a file.
+/// What lies over the pages of a file: the redo images of a commit that a stop cut short, or the
+/// pages of the commits in a log.
 #[derive(Drop)]
 pub struct Images {
     /// Where the image of page n stands, by n; 0 where there is none, and none behind the last.
     pub places: Vec<u32>,
-    /// How many of the images read as no page of the file.
+    /// The pages of a log, in order of their numbers. Each lies over the page of its number,
+    /// wherever that stands.
+    pub logged: StagedPages,
+    /// How many of the redo images read as no page of the file.
     pub lost: u32,
+    pub ghost in_order: { are_in_order 1 (2 ^ 32) (bytes_of logged.items) ≡ true },
 }
 
 impl Images {
+    ghost use Rattle.sect_dev.specs.Device.{Image};
+    ghost use Rattle.page_io.specs.Page.{page_at};
+    ghost use Rattle.page_io.specs.Store.{overlaid};
+    ghost use Rattle.dbm_salvage.specs.Laid.{laid};
+
     /// No image: each page stands at its own number.
     pub fn none(alloc: Global) -> Images
         ensures own { (n : ℕ) → place result.places.items n ≡ n }
+        ensures unlogged { result.logged.items ≡ [] }
+        ensures none { result.lost ≡ 0 }
+    {
+        Images::of_log(alloc, StagedPages::new(alloc))
+    }
+
+    /// The pages of the commits in a log, in order of their numbers. Any other page stands at its
+    /// own number.
+    pub fn of_log(alloc: Global, logged: StagedPages) -> Images
+        requires { are_in_order 1 (2 ^ 32) (bytes_of logged.items) ≡ true }
+        ensures own { (n : ℕ) → place result.places.items n ≡ n }
+        ensures logged { result.logged.items ≡ logged.items }
+        ensures over { (image : Image) (n : ℕ) → laid result image n
+            ≡ overlaid (bytes_of logged.items) (page_at image) n }
         ensures none { result.lost ≡ 0 }
     {
         Images {
             places: Vec::new(alloc),
+            logged,
             lost: 0,
         }
     }
@@ -51,6 +76,7 @@ impl Images {
             images.lost) }
         ensures within { IfOk result (λ images.
             AreOnDevice images.places.items pages (D.sectors dev.new)) }
+        ensures unlogged { IfOk result (λ images. images.logged.items ≡ []) }
         ensures memory { IfErr result (λ _. dev.new ≡ dev.old) }
     {
         let mut places = vec![in alloc; 0; pages as usize]?;
@@ -61,7 +87,11 @@ impl Images {
                 None => lost += 1,
             }
         }
-        Ok(Images { places, lost })
+        Ok(Images {
+            places,
+            logged: StagedPages::new(alloc),
+            lost,
+        })
     }
 }
 
@@ -83,37 +113,4 @@ fn page_of_image<D: SectorDev>(dev: &mut D, pages: u32, at: u32) -> Option<u32>
         return None;
     }
     Some(own)
-}
-
-/// Where page n stands.
-fn place_of(places: &[u32], n: u32) -> u32
-    ensures { result ≡ place places.now n }
-{
-    match places.get(n as usize) {
-        Some(&at) if at != 0 => at,
-        _ => n,
-    }
-}
-
-/// Reads page n of the file, as the images have it.
-#[tactic(auto, unfolding(crate::specs::Images::laid))]
-pub(crate) fn read_laid<D: SectorDev>(
-    dev: &mut D,
-    places: &[u32],
-    n: u32,
-    page: &mut Page,
-) -> Result<(), DevFault>
-    requires { 4 * place places.now n + 4 ≤ D.sectors dev.old }
-    ensures read { D.honest dev.old
-        → OnOk result (page.new.bytes ≡ laid places.now (D.seen dev.old) n) }
-    ensures seen { D.honest dev.old → D.seen dev.new ≡ D.seen dev.old }
-    ensures candidates { D.honest dev.old
-        → NoNewCandidate (D.candidate dev.old) (D.candidate dev.new) }
-    ensures keeps { D.honest dev.old → NoNewCandidate (D.candidate dev.new) (D.candidate dev.old) }
-    ensures any_moment { D.honest dev.old
-        → LeavesOnly D.moment D.left_since dev.old dev.new (IsImageOf (D.candidate dev.old)) }
-    ensures still { (D.moment dev.new).at ≡ (D.moment dev.old).at }
-    ensures device { IsDeviceCall D.SectorDev dev.old dev.new result }
-{
-    read_page(dev, place_of(places, n), page)
 }

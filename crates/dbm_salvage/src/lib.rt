@@ -4,6 +4,7 @@
 mod contents;
 mod images;
 mod looks;
+mod reading;
 mod records;
 mod salvage;
 mod trouble;

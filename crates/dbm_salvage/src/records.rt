@@ -9,7 +9,8 @@ ghost use Rattle.dbm_lines.specs.Dumps.{dump_line};
 ghost use Rattle.page_model.specs.Meaning.{records_on};
 ghost use Rattle.page_model.specs.Reading.{body_of};
 ghost use Rattle.page_io.specs.BucketPages.{IsBucketPage, page_records};
-ghost use Rattle.dbm_salvage.specs.Images.{laid, AreOnDevice};
+ghost use Rattle.dbm_salvage.specs.Images.{AreOnDevice};
+ghost use Rattle.dbm_salvage.specs.Laid.{laid};
 ghost use Rattle.dbm_salvage.specs.Reads.{Looks};
 ghost use Rattle.dbm_salvage.specs.Salvage.{said_in, ReadsAs, IsContentBy, is_failed, IsRecordSalvaged, IsPageSalvaged};
 ghost use Rattle.dbm_salvage.specs.declared.trouble.Trouble.TheVariants.{Unread, Content};
@@ -17,6 +18,7 @@ ghost use Rattle.dbm_salvage.specs.declared.contents.NoContent.TheVariants.{Fail
 ghost use Rattle.dbm_fault.specs.declared.engine_fault.EngineFault.TheVariants as engine;
 
 use crate::contents::{NoContent, read_content};
+use crate::images::Images;
 use crate::trouble::Trouble;
 use dbm_fault::EngineFault;
 use dbm_lines::{write_bytes, write_word};
@@ -39,13 +41,13 @@ pub(crate) struct PageFound {
 /// holds.
 fn content_of<D: SectorDev>(
     dev: &mut D,
-    places: &[u32],
+    images: &Images,
     pages: u32,
     page: &Page,
     i: usize,
     content: &mut Vec<u8>,
 ) -> Result<(), NoContent>
-    requires fits { AreOnDevice places.now pages (D.sectors dev.old) }
+    requires fits { AreOnDevice images.now.places.items pages (D.sectors dev.old) }
     requires page { IsBucketPage page.now.bytes }
     requires within { i < length (page_records page.now.bytes) }
     requires room { 65535 ≤ vec_capacity content.old }
@@ -53,15 +55,15 @@ fn content_of<D: SectorDev>(
     ensures cause { IsErrOf result Failed → MoreFaults (D.faults dev.old) (D.faults dev.new) }
     ensures capacity { vec_capacity content.old ≤ vec_capacity content.new }
     ensures content { D.honest dev.old
-        → OnOk result (HoldsAt (λ r. IsContentBy (said_in (laid places.now (D.seen dev.old)) pages) r.bytes r.far
-        content.new.items) (page_records page.now.bytes) i) }
+        → OnOk result (HoldsAt (λ r. IsContentBy (said_in (laid images.now (D.seen dev.old)) pages)
+        r.bytes r.far content.new.items) (page_records page.now.bytes) i) }
     ensures broken { D.honest dev.old → IsErrOf result Broken
         → HoldsAt (λ r. (bytes : List ℕ)
-        → IsContentBy (said_in (laid places.now (D.seen dev.old)) pages) r.bytes r.far bytes → ⊥)
+        → IsContentBy (said_in (laid images.now (D.seen dev.old)) pages) r.bytes r.far bytes → ⊥)
         (page_records page.now.bytes) i }
 {
     if let Some((first, long)) = far_at(page, i) {
-        return read_content(dev, places, pages, first, long, content);
+        return read_content(dev, images, pages, first, long, content);
     }
     let (_, bytes) = pair_at(page, i);
     content.clear();
@@ -82,14 +84,14 @@ fn write_pair<W: Write>(writer: &mut W, key: &[u8], content: &[u8]) -> io::Resul
 /// Writes the line of the pair of record `i`; or answers why there is none.
 fn salvage_record<D: SectorDev, W: Write>(
     dev: &mut D,
-    places: &[u32],
+    images: &Images,
     pages: u32,
     page: &Page,
     i: usize,
     content: &mut Vec<u8>,
     writer: &mut W,
 ) -> io::Result<Option<NoContent>>
-    requires fits { AreOnDevice places.now pages (D.sectors dev.old) }
+    requires fits { AreOnDevice images.now.places.items pages (D.sectors dev.old) }
     requires page { IsBucketPage page.now.bytes }
     requires within { i < length (page_records page.now.bytes) }
     requires room { 65535 ≤ vec_capacity content.old }
@@ -98,10 +100,10 @@ fn salvage_record<D: SectorDev, W: Write>(
         → MoreFaults (D.faults dev.old) (D.faults dev.new)) }
     ensures capacity { vec_capacity content.old ≤ vec_capacity content.new }
     ensures pair { D.honest dev.old → IfOk result
-        (IsRecordSalvaged (laid places.now (D.seen dev.old)) pages (page_records page.now.bytes) i
+        (IsRecordSalvaged (laid images.now (D.seen dev.old)) pages (page_records page.now.bytes) i
         (W.contents writer.old) (W.contents writer.new)) }
 {
-    match content_of(dev, places, pages, page, i, content) {
+    match content_of(dev, images, pages, page, i, content) {
         Ok(()) => {
             let (key, _) = pair_at(page, i);
             write_pair(writer, key, content)?;
@@ -115,7 +117,7 @@ fn salvage_record<D: SectorDev, W: Write>(
 /// step of `progress`.
 pub(crate) fn salvage_records<D: SectorDev, W: Write, P: Progress>(
     dev: &mut D,
-    places: &[u32],
+    images: &Images,
     pages: u32,
     n: u32,
     page: &Page,
@@ -123,15 +125,15 @@ pub(crate) fn salvage_records<D: SectorDev, W: Write, P: Progress>(
     writer: &mut W,
     progress: &mut P,
 ) -> Result<PageFound, EngineFault>
-    requires fits { AreOnDevice places.now pages (D.sectors dev.old) }
+    requires fits { AreOnDevice images.now.places.items pages (D.sectors dev.old) }
     requires page { IsBucketPage page.now.bytes }
     requires reads { ReadsAs n page.now.bytes }
     requires records { records_on (body_of n page.now.bytes) ≡ page_records page.now.bytes }
     requires room { 65535 ≤ vec_capacity content.old }
     ensures looks { Looks D.SectorDev dev.old dev.new }
     ensures capacity { vec_capacity content.old ≤ vec_capacity content.new }
-    ensures page { D.honest dev.old → page.now.bytes ≡ laid places.now (D.seen dev.old) n
-        → IfOk result (λ found. IsPageSalvaged (laid places.now (D.seen dev.old)) pages
+    ensures page { D.honest dev.old → page.now.bytes ≡ laid images.now (D.seen dev.old) n
+        → IfOk result (λ found. IsPageSalvaged (laid images.now (D.seen dev.old)) pages
         (MoreFaults (D.faults dev.old) (D.faults dev.new)) n
         (W.contents writer.old) (W.contents writer.new) found.printed found.trouble) }
     ensures only { IfErr result (λ e. e ≡ engine.Write) }
@@ -141,7 +143,7 @@ pub(crate) fn salvage_records<D: SectorDev, W: Write, P: Progress>(
     let mut printed: u16 = 0;
     let mut has_failed = false;
     for i in 0..usize::from(count) {
-        let Ok(lost) = salvage_record(dev, places, pages, page, i, content, writer) else {
+        let Ok(lost) = salvage_record(dev, images, pages, page, i, content, writer) else {
             return Err(EngineFault::Write);
         };
         printed += count_pair(lost, progress);

@@ -2,14 +2,16 @@
 
 ghost use Rattle.std.specs.Prelude.{◌≡◌, ◌⊎◌, ◌*◌, ◌≤◌, ◌<◌, length, Some, IfOk, IfErr, IsErrOf, vec_capacity};
 ghost use Rattle.sect_dev.specs.Device.{MoreFaults};
-ghost use Rattle.dbm_salvage.specs.Images.{laid, AreOnDevice};
+ghost use Rattle.dbm_salvage.specs.Images.{AreOnDevice};
+ghost use Rattle.dbm_salvage.specs.Laid.{laid};
 ghost use Rattle.dbm_salvage.specs.Reads.{Looks};
 ghost use Rattle.dbm_salvage.specs.Salvage.{IsPageSalvaged, AreSalvaged, told_by};
 ghost use Rattle.dbm_salvage.specs.Telling.{Tells};
 ghost use Rattle.dbm_fault.specs.declared.engine_fault.EngineFault.TheVariants.{Memory, Write as WriteFault};
 
-use crate::images::{Images, read_laid};
+use crate::images::Images;
 use crate::looks::look_at;
+use crate::reading::read_laid;
 use crate::records::{PageFound, salvage_records};
 use crate::trouble::{Trouble, Troubles};
 use dbm_fault::EngineFault;
@@ -34,30 +36,30 @@ pub struct Salvaged {
 /// Writes the lines of the pairs of page n.
 fn salvage_page<D: SectorDev, W: Write, P: Progress>(
     dev: &mut D,
-    places: &[u32],
+    images: &Images,
     pages: u32,
     n: u32,
     content: &mut Vec<u8>,
     writer: &mut W,
     progress: &mut P,
 ) -> Result<PageFound, EngineFault>
-    requires fits { AreOnDevice places.now pages (D.sectors dev.old) }
+    requires fits { AreOnDevice images.now.places.items pages (D.sectors dev.old) }
     requires within { n < pages }
     requires room { 65535 ≤ vec_capacity content.old }
     ensures looks { Looks D.SectorDev dev.old dev.new }
     ensures capacity { vec_capacity content.old ≤ vec_capacity content.new }
     ensures page { D.honest dev.old
-        → IfOk result (λ found. IsPageSalvaged (laid places.now (D.seen dev.old)) pages
+        → IfOk result (λ found. IsPageSalvaged (laid images.now (D.seen dev.old)) pages
         (MoreFaults (D.faults dev.old) (D.faults dev.new)) n
         (W.contents writer.old) (W.contents writer.new) found.printed found.trouble) }
     ensures only { IfErr result (λ e. e ≡ WriteFault) }
 {
     let mut page = Page::blank();
-    if read_laid(dev, places, n, &mut page).is_err() {
+    if read_laid(dev, images, n, &mut page).is_err() {
         return Ok(in_trouble(Trouble::Unread));
     }
     match look_at(&page, n) {
-        Ok(true) => salvage_records(dev, places, pages, n, &page, content, writer, progress),
+        Ok(true) => salvage_records(dev, images, pages, n, &page, content, writer, progress),
         Ok(false) => Ok(PageFound {
             printed: 0,
             trouble: None,
@@ -98,11 +100,11 @@ fn in_trouble(trouble: Trouble) -> PageFound
 
 /// Writes each pair of the pages 1 to `pages` - 1 as `key content` in a line, page by page and slot
 /// by slot, where the page reads as a bucket page of its own number. A page over which a redo image
-/// lies is that image. Of each page that reads as no
-/// page of its number, and of each that has a far content that isn't whole, `troubles` is told. A
-/// page that the device fails to read is one of them, and the salvage goes on. The memory for the
-/// longest content is taken before a page is read. After `Write` some of the text may be out. Each
-/// pair is a step of `progress`, which is cleared before `troubles` is told something.
+/// or a page of a log lies is that one. Of each page that reads as no page of its number, and of
+/// each that has a far content that isn't whole, `troubles` is told. A page that the device fails to
+/// read is one of them, and the salvage goes on. The memory for the longest content is taken before
+/// a page is read. After `Write` some of the text may be out. Each pair is a step of `progress`,
+/// which is cleared before `troubles` is told something.
 pub fn salvage_engine<D: SectorDev, W: Write, T: Troubles, P: Progress>(
     alloc: Global,
     dev: &mut D,
@@ -117,7 +119,7 @@ pub fn salvage_engine<D: SectorDev, W: Write, T: Troubles, P: Progress>(
     // Whatever it answers, on any device.
     ensures looks { Looks D.SectorDev dev.old dev.new }
     ensures salvaged { D.honest dev.old → IfOk result (λ all. AreSalvaged
-        (laid images.now.places.items (D.seen dev.old)) pages
+        (laid images.now (D.seen dev.old)) pages
         (MoreFaults (D.faults dev.old) (D.faults dev.new)) pages
         (W.contents writer.old) (W.contents writer.new)
         (T.told troubles.old) (T.told troubles.new) all.pairs all.troubles) }
@@ -131,15 +133,7 @@ pub fn salvage_engine<D: SectorDev, W: Write, T: Troubles, P: Progress>(
         troubles: 0,
     };
     for n in 1..pages {
-        let found = salvage_page(
-            dev,
-            images.places.as_slice(),
-            pages,
-            n,
-            &mut content,
-            writer,
-            progress,
-        )?;
+        let found = salvage_page(dev, images, pages, n, &mut content, writer, progress)?;
         all.pairs += u64::from(found.printed);
         all.troubles += tell(troubles, progress, n, found.trouble);
     }

@@ -33,6 +33,10 @@ pub trait Troubles {
     /// those from before the commit.
     fn tell_lost(&mut self, images: u32)
         ensures { told self.new ≡ told self.old };
+
+    /// The log of the last commits can't be read, so that what stands in it alone is missing.
+    fn tell_lost_log(&mut self)
+        ensures { told self.new ≡ told self.old };
 }
 
 /// Shows nothing of what it is told.
@@ -45,4 +49,6 @@ impl Troubles for Unshown {
     fn tell(&mut self, _page: u32, _trouble: Trouble) {}
 
     fn tell_lost(&mut self, _images: u32) {}
+
+    fn tell_lost_log(&mut self) {}
 }

@@ -27,7 +27,7 @@ is_fault NotText = false
 
 -- the name of the file that the plan opens, without `.db`
 abbrev pub file_of : Plan → Option (List ℕ)
-file_of (Create file limit version) = Some file.now
+file_of (Create file limit version commits) = Some file.now
 file_of (Store file key content spelling) = Some file.now
 file_of (Insert file key content spelling) = Some file.now
 file_of (Fetch file key spelling) = Some file.now
@@ -41,7 +41,7 @@ file_of (Backup file to) = Some file.now
 file_of (Salvage file) = Some file.now
 file_of (Stat file) = Some file.now
 file_of (Verify file) = Some file.now
-file_of (Upgrade file) = Some file.now
+file_of (Upgrade file to) = Some file.now
 file_of (Script (File file) spelling) = Some file.now
 file_of (ReadScript file spelling) = Some file.now
 file_of (Script (InMemory limit version) spelling) = None

@@ -22,12 +22,21 @@ use Rattle.dbm_commands.specs.declared.outcomes.Outcome.{Outcome}
 use Rattle.dbm_commands.specs.declared.outcomes.Failure.{Failure}
 use Rattle.dbm_commands.specs.declared.outcomes.Failure.TheVariants.{Fault}
 use Rattle.dbm_command_line.specs.declared.plan.Version.{Version}
+use Rattle.dbm_command_line.specs.declared.plan.Commits.{Commits}
+use Rattle.dbm_command_line.specs.declared.plan.Commits.TheVariants.{Images, Log}
 use Rattle.dbm_command_line.specs.declared.plan.Version.TheVariants.{V1, V2}
+use Rattle.redo_area.specs.declared.header.CommitKind.{CommitKind}
+use Rattle.redo_area.specs.declared.header.CommitKind.TheVariants as kind
 
 -- the version of the format that the words ask for, as the file has it
 abbrev pub version_of : Version → FileVersion
 version_of V1 = file.V1
 version_of V2 = file.V2
+
+-- how commits are made that the words ask for, as the file has it
+abbrev pub kind_of : Commits → CommitKind
+kind_of Images = kind.Images
+kind_of Log = kind.Log
 
 -- how the database of a file is opened that has to be there
 abbrev pub there : Access → OpenHow
@@ -38,18 +47,20 @@ there access = record {
   truncate = false;
   limit = 0;
   version = file.V1;
+  commits = kind.Images;
   kept_pages = None;
 }
 
 -- how a new one is made, where there is none
-abbrev pub made_new : ℕ → Version → OpenHow
-made_new limit version = record {
+abbrev pub made_new : ℕ → Version → Commits → OpenHow
+made_new limit version commits = record {
   access = ReadWrite;
   create = true;
   exclusive = true;
   truncate = false;
   limit = limit;
   version = version_of version;
+  commits = kind_of commits;
   kept_pages = None;
 }
 

@@ -11,6 +11,7 @@ use Rattle.dbm_file.specs.declared.calls.StoreMode.TheVariants as mode
 use Rattle.dbm_lines.specs.Forms.{dump_in, listing_in}
 use Rattle.dbm_command_line.specs.declared.help_text.TheConstants.{FAULT_TABLE}
 use Rattle.dbm_command_line.specs.declared.plan.Plan.{Plan}
+use Rattle.dbm_command_line.specs.declared.plan.Upgrade.TheVariants.{Version2}
 use Rattle.dbm_command_line.specs.declared.plan.Plan.TheVariants.{Create, Store, Insert, Fetch, Delete, List as ListKeys, Dump, Load, Stat, Verify, Upgrade, Script, ReadScript, Rehearse, Faults}
 use Rattle.dbm_command_line.specs.declared.plan.Source.TheVariants.{File, Memory}
 use Rattle.dbm_command_line.specs.declared.plan.Version.{Version}
@@ -60,11 +61,12 @@ module _ {D : Type 0} {bound : device.Ghosts D} {p : store.Ghosts (Pager D bound
     (s : store.Ghosts (CachedPages (Pager D bound) p)) where
   -- The plan was carried out, over files that are devices of this kind, and ended so: with this
   -- input, and an output that had the old bytes and has the new ones. Of the plans that replace,
-  -- copy or salvage a file nothing is said here.
+  -- copy or salvage a file, or have its commits made otherwise, nothing is said here.
   abbrev pub CarriesOut : Plan → Result Outcome Failure → Option (List ℕ) → Option (List ℕ)
       → Option (List ℕ) → Type 0
-  CarriesOut (Create file limit version) result input old new =
-      Opens s (made_new limit version) (λ db after done. (after ≡ db) × (done ≡ Ok Done)) result
+  CarriesOut (Create file limit version commits) result input old new =
+      Opens s (made_new limit version commits)
+      (λ db after done. (after ≡ db) × (done ≡ Ok Done)) result
   CarriesOut (Store file key content spelled) result input old new =
       Takes spelled key.now (λ k. Takes spelled content.now (λ c. Opens s (there ReadWrite)
       (λ db after done. MakesCall db after (call.Store k c mode.Replace) (IsTold done)))) result
@@ -89,7 +91,7 @@ module _ {D : Type 0} {bound : device.Ghosts D} {p : store.Ghosts (Pager D bound
       Opens s (there ReadOnly) (λ db after. PrintsNumbers db after old new) result
   CarriesOut (Verify file) result input old new =
       Opens s (there ReadOnly) (λ db after. LooksThrough db old new) result
-  CarriesOut (Upgrade file) result input old new =
+  CarriesOut (Upgrade file Version2) result input old new =
       Opens s (there ReadWrite) (λ db after done. MakesCall db after call.Upgrade (IsTold done))
       result
   CarriesOut (Script (File file) spelled) result input old new =

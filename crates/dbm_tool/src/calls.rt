@@ -1,20 +1,25 @@
 // The commands that make one call.
-ghost use Rattle.std.specs.Prelude.{◌≡◌, ◌⊎◌, Ok, Err, None};
+ghost use Rattle.std.specs.Prelude.{◌≡◌, ◌≢◌, ◌⊎◌, IfErr, Ok, Err, None};
 ghost use Rattle.dbm_tool.specs.Endings.{EndsAs};
 ghost use Rattle.dbm_tool.specs.Plans.{CarriesOut};
 
 use crate::EngineFault;
 use crate::host::{FileStore, Host};
-use crate::versions::file_version;
-use dbm_command_line::{Plan, Spelling, Version};
-use dbm_commands::{Failure, Outcome, bytes_of};
-use dbm_file::{Access, OpenHow, StoreMode};
+use crate::versions::{commit_kind, file_version};
+use dbm_command_line::{Commits, Plan, Spelling, Upgrade, Version};
+use dbm_commands::{Failure, Outcome, bytes_of, close_after};
+use dbm_file::{Access, Fault, OpenHow, StoreMode};
 use dbm_progress::Progress;
 use page_io::PageStore;
+use redo_area::{OpenFault, change_kind};
+use sect_dev::{FileDev, SectorDev};
 use std::fs::File;
 use std::io::Write;
 use std::rt::Files;
 use std::time::Clock;
+
+/// How many sectors a file has at least.
+const LEAST_SECTORS: u32 = 16;
 
 /// Makes a database.
 pub fn create<T: Files<File = File> + Clock>(
@@ -22,10 +27,11 @@ pub fn create<T: Files<File = File> + Clock>(
     file: &str,
     limit: u32,
     version: Version,
+    commits: Commits,
 ) -> Result<Outcome, Failure>
     ensures carried { CarriesOut ⟦<FileStore as PageStore>⟧
-        (Plan.Create file.entry limit version) result None None None }
-    ensures ends { EndsAs (Plan.Create file.entry limit version) result }
+        (Plan.Create file.entry limit version commits) result None None None }
+    ensures ends { EndsAs (Plan.Create file.entry limit version commits) result }
 {
     let how = OpenHow {
         access: Access::ReadWrite,
@@ -34,6 +40,7 @@ pub fn create<T: Files<File = File> + Clock>(
         truncate: false,
         limit,
         version: file_version(version),
+        commits: commit_kind(commits),
         kept_pages: None,
     };
     let db = host.open(file, how)?;
@@ -131,14 +138,77 @@ pub fn stat<T: Files<File = File> + Clock, O: Write>(
     host.close(db, done)
 }
 
-/// Makes the database one of version 2.
+/// Makes the database another one, with the same pairs.
 pub fn upgrade<T: Files<File = File> + Clock>(
+    host: &mut Host<'_, T>,
+    file: &str,
+    to: Upgrade,
+) -> Result<Outcome, Failure>
+    ensures carried { CarriesOut ⟦<FileStore as PageStore>⟧
+        (Plan.Upgrade file.entry to) result None None None }
+    ensures ends { EndsAs (Plan.Upgrade file.entry to) result }
+{
+    match to {
+        Upgrade::Version2 => upgrade_version(host, file),
+        Upgrade::Commits(commits) => change_commits(host, file, commits),
+    }
+}
+
+/// Has the commits of the database made so from now on.
+fn change_commits<T: Files<File = File> + Clock>(
+    host: &mut Host<'_, T>,
+    file: &str,
+    commits: Commits,
+) -> Result<Outcome, Failure>
+    ensures ends { EndsAs (Plan.Upgrade file.entry (Upgrade.Commits commits)) result }
+{
+    let db = host.open_there(file, Access::ReadWrite)?;
+    let (dev, ended) = close_after(db, Ok(Outcome::Done));
+    let mut dev = dev;
+    let ended = match ended {
+        Ok(outcome) => match change(&mut dev, commits) {
+            Ok(()) => Ok(outcome),
+            Err(fault) => Err(Failure::from(fault)),
+        },
+        Err(failure) => Err(failure),
+    };
+    host.cause = dev.last_error();
+    ended
+}
+
+/// Has the commits of a file that was just closed made so.
+fn change(dev: &mut FileDev, commits: Commits) -> Result<(), Fault>
+    ensures { IfErr result (λ e. (e ≢ Fault.Broken) × (e ≢ Fault.TooLong)) }
+{
+    if dev.capacity() < LEAST_SECTORS {
+        return Err(Fault::TooSmall);
+    }
+    match change_kind(dev, commit_kind(commits)) {
+        Ok(()) => Ok(()),
+        Err(fault) => Err(fault_of(fault)),
+    }
+}
+
+/// Why a file that was just closed doesn't open again.
+fn fault_of(fault: OpenFault) -> Fault
+    ensures { (result ≢ Fault.Broken) × (result ≢ Fault.TooLong) }
+{
+    match fault {
+        OpenFault::Memory => Fault::Memory,
+        OpenFault::Device => Fault::Device,
+        OpenFault::Blank | OpenFault::NotOurs => Fault::NotADatabase,
+        OpenFault::Damaged => Fault::Damaged,
+    }
+}
+
+/// Makes the database one of version 2.
+fn upgrade_version<T: Files<File = File> + Clock>(
     host: &mut Host<'_, T>,
     file: &str,
 ) -> Result<Outcome, Failure>
     ensures carried { CarriesOut ⟦<FileStore as PageStore>⟧
-        (Plan.Upgrade file.entry) result None None None }
-    ensures ends { EndsAs (Plan.Upgrade file.entry) result }
+        (Plan.Upgrade file.entry Upgrade.Version2) result None None None }
+    ensures ends { EndsAs (Plan.Upgrade file.entry Upgrade.Version2) result }
 {
     let mut db = host.open_there(file, Access::ReadWrite)?;
     let done = dbm_commands::upgrade(&mut db);

@@ -51,7 +51,8 @@ pub fn carry_out<T: Files<File = File> + Clock, R: BufRead, O: Write, S: Trouble
             file,
             limit,
             version,
-        } => create(host, file, limit, version),
+            commits,
+        } => create(host, file, limit, version, commits),
         Plan::Store {
             file,
             key,
@@ -91,7 +92,7 @@ pub fn carry_out<T: Files<File = File> + Clock, R: BufRead, O: Write, S: Trouble
         Plan::Salvage { file } => salvage(host, file, output, troubles, progress),
         Plan::Stat { file } => stat(host, file, output),
         Plan::Verify { file } => verify(host, file, output, progress),
-        Plan::Upgrade { file } => upgrade(host, file),
+        Plan::Upgrade { file, to } => upgrade(host, file, to),
         Plan::Script {
             source: Source::File(file),
             spelling,

@@ -10,7 +10,7 @@ use crate::waiting::open_waiting;
 use dbm_command_line::Spelling;
 use dbm_commands::{Failure, Outcome, close_after};
 use dbm_engines::BadLine;
-use dbm_file::{Access, Db, Fault, Flaw, OpenHow, Refusal, Version, open_named};
+use dbm_file::{Access, CommitKind, Db, Fault, Flaw, OpenHow, Refusal, Version, open_named};
 use page_cache::CachedPages;
 use redo_area::Pager;
 use sect_dev::{FileDev, SectorDev};
@@ -88,6 +88,7 @@ impl<T: Files<File = File> + Clock> Host<'_, T> {
                 truncate: false,
                 limit: 0,
                 version: Version::V1,
+                commits: CommitKind::Images,
                 kept_pages: None,
             },
         )

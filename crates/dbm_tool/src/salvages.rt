@@ -1,8 +1,8 @@
 // Salvages of a file that may be damaged.
-ghost use Rattle.std.specs.Prelude.{◌≡◌, ◌⊎◌, ◌+◌, ◌*◌, ◌≤◌, ℕ, IfOk, Ok, Err};
+ghost use Rattle.std.specs.Prelude.{◌≡◌, ◌⊎◌, ◌+◌, ◌*◌, ◌≤◌, ℕ, false, IfOk, IfSome, Ok, Err, Some, None};
 ghost use Rattle.dbm_salvage.specs.Images.{AreOnDevice};
 ghost use Rattle.redo_area.specs.Header.{IsInRange};
-ghost use Rattle.redo_area.specs.declared.header.Header.TheVariants.{Clear, Armed};
+ghost use Rattle.redo_area.specs.declared.header.Header.TheVariants.{Clear, Armed, Logging};
 ghost use Rattle.dbm_tool.specs.Endings.{EndsAs};
 
 use crate::EngineFault;
@@ -14,7 +14,7 @@ use dbm_commands::{Failure, Outcome};
 use dbm_file::{Fault, Refusal, open_path};
 use dbm_progress::Progress;
 use dbm_salvage::{Images, Salvaged, Trouble, Troubles, salvage_engine};
-use redo_area::{Header, read_header};
+use redo_area::{Header, OpenFault, read_header, read_log};
 use sect_dev::{FileDev, FileFault, SectorDev};
 use std::alloc::Global;
 use std::fs::{self, File};
@@ -39,8 +39,6 @@ impl<W: Write> Told<W> {
 }
 
 impl<W: Write> Troubles for Told<W> {
-    ghost use Rattle.std.specs.Prelude.{None};
-
     ghost told = { λ _. None };
 
     fn tell(&mut self, page: u32, trouble: Trouble) {
@@ -51,6 +49,13 @@ impl<W: Write> Troubles for Told<W> {
         let _ = writeln!(
             self.faults,
             "dbmtool: redo images that read as no page: {images}; as many pages are printed as they were before the last commit"
+        );
+    }
+
+    fn tell_lost_log(&mut self) {
+        let _ = writeln!(
+            self.faults,
+            "dbmtool: the log of the last commits cannot be read; what stands in it alone is not printed"
         );
     }
 }
@@ -77,15 +82,13 @@ pub fn salvage<T: Files<File = File> + Clock, O: Write, S: Troubles, P: Progress
     ensures { EndsAs (Plan.Salvage file.entry) result }
 {
     let (mut dev, length) = device_of(host, file)?;
-    let found = layout_of(&mut dev, length);
-    let images = images_of(host.alloc, &mut dev, found)?;
-    if images.lost > 0 {
-        troubles.tell_lost(images.lost);
-    }
+    let layout = layout_of(&mut dev, length);
+    let found = find_pages(host.alloc, &mut dev, layout)?;
+    tell_losses(troubles, found.images.lost, found.is_log_lost);
     let done = salvage_engine(
         host.alloc,
         &mut dev,
-        &images,
+        &found.images,
         found.pages,
         output,
         troubles,
@@ -94,16 +97,27 @@ pub fn salvage<T: Files<File = File> + Clock, O: Write, S: Troubles, P: Progress
     let flushed = output.flush();
     let salvaged = done?;
     flushed.map_err(unwritten)?;
-    verdict(salvaged, images.lost)
+    verdict(salvaged, found.images.lost, found.is_log_lost)
 }
 
-/// Whether each page was read, and each redo image.
-fn verdict(salvaged: Salvaged, lost: u32) -> Result<Outcome, Failure>
-    ensures done { result ≡ Ok Outcome.Done → (salvaged.troubles ≡ 0) × (lost ≡ 0) }
+/// Tells how many redo images are lost, if any, and whether a log is.
+fn tell_losses<S: Troubles>(troubles: &mut S, images: u32, is_log_lost: bool) {
+    if images > 0 {
+        troubles.tell_lost(images);
+    }
+    if is_log_lost {
+        troubles.tell_lost_log();
+    }
+}
+
+/// Whether each page was read, each redo image, and the log.
+fn verdict(salvaged: Salvaged, lost: u32, is_log_lost: bool) -> Result<Outcome, Failure>
+    ensures done { result ≡ Ok Outcome.Done
+        → (salvaged.troubles ≡ 0) × (lost ≡ 0) × (is_log_lost ≡ false) }
     ensures only { (result ≡ Ok Outcome.Done)
         ⊎ (result ≡ Err (Failure.Fault (EngineFault.Db Fault.Damaged))) }
 {
-    if salvaged.troubles == 0 && lost == 0 {
+    if salvaged.troubles == 0 && lost == 0 && !is_log_lost {
         Ok(Outcome::Done)
     } else {
         Err(Failure::from(Fault::Damaged))
@@ -119,6 +133,10 @@ struct Layout {
     start: u32,
     /// How many redo images there are: those of a commit that a stop cut short.
     count: u32,
+    /// The first page of the log that has the last commits, where the file was left with one. How
+    /// many pages the file has is then for the log to say, and `pages` is for where that can't be
+    /// read.
+    log: Option<u32>,
 }
 
 /// The layout of a file: what its commit sector says, and else as many pages as go into its bytes.
@@ -126,6 +144,8 @@ fn layout_of(dev: &mut FileDev, length: u64) -> Layout
     ensures behind { result.pages ≤ result.start }
     ensures within { 4 * (result.start + result.count)
         ≤ ⟦<FileDev as SectorDev>⟧.sectors dev.new }
+    ensures log { IfSome result.log (λ start. 4 * start + 128
+        ≤ ⟦<FileDev as SectorDev>⟧.sectors dev.new) }
 {
     let capacity = dev.capacity() / 4;
     let all = pages_of(length).min(capacity);
@@ -142,9 +162,14 @@ fn layout_by(capacity: u32, header: Header, all: u32) -> Layout
     requires all { all ≤ capacity }
     ensures behind { result.pages ≤ result.start }
     ensures within { result.start + result.count ≤ capacity }
+    ensures log { IfSome result.log (λ start. start + 32 ≤ capacity) }
     ensures armed { (end : ℕ) (start : ℕ) (count : ℕ) → header ≡ Armed end start count
-        → (result.pages ≡ end) × (result.start ≡ start) × (result.count ≡ count) }
-    ensures clear { (end : ℕ) → header ≡ Clear end → (result.pages ≡ end) × (result.count ≡ 0) }
+        → (result.pages ≡ end) × (result.start ≡ start) × (result.count ≡ count)
+        × (result.log ≡ None) }
+    ensures clear { (end : ℕ) → header ≡ Clear end
+        → (result.pages ≡ end) × (result.count ≡ 0) × (result.log ≡ None) }
+    ensures logging { (start : ℕ) → header ≡ Logging start
+        → (result.pages ≡ all) × (result.count ≡ 0) × (result.log ≡ Some start) }
 {
     match header {
         Header::Clear { end } => at_home(end),
@@ -152,19 +177,26 @@ fn layout_by(capacity: u32, header: Header, all: u32) -> Layout
             pages: end,
             start,
             count,
+            log: None,
+        },
+        Header::Logging { start } => Layout {
+            log: Some(start),
+            ..at_home(all)
         },
         Header::Blank | Header::NotOurs | Header::Damaged => at_home(all),
     }
 }
 
-/// The layout of a file of so many pages with no redo image.
+/// The layout of a file of so many pages with no redo image and no log.
 fn at_home(pages: u32) -> Layout
-    ensures { (result.pages ≡ pages) × (result.start ≡ pages) × (result.count ≡ 0) }
+    ensures { (result.pages ≡ pages) × (result.start ≡ pages) × (result.count ≡ 0)
+        × (result.log ≡ None) }
 {
     Layout {
         pages,
         start: pages,
         count: 0,
+        log: None,
     }
 }
 
@@ -173,18 +205,66 @@ fn pages_of(length: u64) -> u32 {
     u32::try_from(length.div_ceil(PAGE)).unwrap_or(u32::MAX)
 }
 
-/// The redo images of a file.
-fn images_of(alloc: Global, dev: &mut FileDev, found: Layout) -> Result<Images, Fault>
-    requires behind { found.pages ≤ found.start }
-    requires within { 4 * (found.start + found.count)
+/// The pages of a file, as a salvage looks at them.
+#[derive(Drop)]
+struct Found {
+    /// How many pages the file has, page 0 among them.
+    pages: u32,
+    /// What lies over them.
+    images: Images,
+    /// Whether the commits in its log couldn't be read.
+    is_log_lost: bool,
+}
+
+/// The pages of a file of this layout. Where the log can't be read or says no commit, nothing lies
+/// over them.
+fn find_pages(alloc: Global, dev: &mut FileDev, layout: Layout) -> Result<Found, Fault>
+    requires behind { layout.pages ≤ layout.start }
+    requires within { 4 * (layout.start + layout.count)
         ≤ ⟦<FileDev as SectorDev>⟧.sectors dev.old }
-    ensures { IfOk result (λ images. AreOnDevice images.places.items found.pages
+    requires log { IfSome layout.log (λ start. 4 * start + 128
+        ≤ ⟦<FileDev as SectorDev>⟧.sectors dev.old) }
+    ensures within { IfOk result (λ found. AreOnDevice found.images.places.items found.pages
+        (⟦<FileDev as SectorDev>⟧.sectors dev.new)) }
+    ensures unlogged { layout.log ≡ None → IfOk result (λ found.
+        (found.pages ≡ layout.pages) × (found.is_log_lost ≡ false)) }
+    ensures logged { (start : ℕ) → layout.log ≡ Some start → IfOk result (λ found.
+        found.is_log_lost ≡ false → found.pages ≤ start) }
+{
+    let Some(start) = layout.log else {
+        return Ok(Found {
+            pages: layout.pages,
+            images: images_of(alloc, dev, layout)?,
+            is_log_lost: false,
+        });
+    };
+    match read_log(alloc, dev, start) {
+        Ok(file) => Ok(Found {
+            pages: file.end,
+            images: Images::of_log(alloc, file.redo),
+            is_log_lost: false,
+        }),
+        Err(OpenFault::Memory) => Err(Fault::Memory),
+        Err(_) => Ok(Found {
+            pages: layout.pages,
+            images: Images::none(alloc),
+            is_log_lost: true,
+        }),
+    }
+}
+
+/// The redo images of a file.
+fn images_of(alloc: Global, dev: &mut FileDev, layout: Layout) -> Result<Images, Fault>
+    requires behind { layout.pages ≤ layout.start }
+    requires within { 4 * (layout.start + layout.count)
+        ≤ ⟦<FileDev as SectorDev>⟧.sectors dev.old }
+    ensures { IfOk result (λ images. AreOnDevice images.places.items layout.pages
         (⟦<FileDev as SectorDev>⟧.sectors dev.new)) }
 {
-    if found.count == 0 {
+    if layout.count == 0 {
         return Ok(Images::none(alloc));
     }
-    Images::of(alloc, dev, found.pages, found.start, found.count).map_err(|_| Fault::Memory)
+    Images::of(alloc, dev, layout.pages, layout.start, layout.count).map_err(|_| Fault::Memory)
 }
 
 /// The file, opened for reading, and how many bytes it has.

@@ -15,7 +15,7 @@ use Rattle.page_io.specs.Store.{Settled, Pages, blank, file_of, nothing, page_of
 use Rattle.page_io.specs.Meaning.{FileStandsFor, ImageStandsFor}
 use Rattle.redo_area.specs.File.{settled}
 use Rattle.redo_area.specs.Header.{has_magic}
-use Rattle.redo_area.specs.Opening.{refusal_by, refusal_of, IsRefused, SaysArmed}
+use Rattle.redo_area.specs.Opening.{refusal_by, refusal_of, IsRefused, SaysUnsettled}
 use Rattle.page_io.specs.declared.store.PageStore as store
 use Rattle.sect_dev.specs.Reads.{OnlyReads}
 use Rattle.redo_area.specs.Settling.{SettlesTo}
@@ -128,7 +128,7 @@ module _ (how : OpenHow) (sectors : ℕ) (start now : Candidates) where
 
   -- memory was wanted for the redo images of an armed file
   pub lacks_memory : (writing : Bool) (before : Image) → writing ≡ writes how.access
-      → (writing ≡ true → ⊥) → IsImageOf start before → SaysArmed (sectors / 4) before
+      → (writing ≡ true → ⊥) → IsImageOf start before → SaysUnsettled (sectors / 4) before
       → IsRefusedOpening how sectors start now Memory
   lacks_memory true before asked not_so there armed = absurd (not_so refl)
   lacks_memory false before asked not_so there armed = record {

@@ -18,7 +18,7 @@ use Rattle.page_io.specs.Meaning.{ImageStandsFor}
 use Rattle.seg_table.specs.MetaPages.{HasMetaHeader, IsUnknown}
 use Rattle.redo_area.specs.Header.{has_magic}
 use Rattle.redo_area.specs.File.{settled}
-use Rattle.redo_area.specs.Opening.{SaysArmed}
+use Rattle.redo_area.specs.Opening.{SaysUnsettled}
 use Rattle.redo_area.specs.Settling.{SettlesTo}
 use Rattle.file_opening.specs.declared.open_how.Access.{Access}
 use Rattle.file_opening.specs.declared.open_how.Access.TheVariants as access
@@ -114,7 +114,7 @@ RefusesOpened how sectors pages fault =
 -- memory is taken for the pages of an emptied database, and for redo images that may not be written
 abbrev pub TakesMemory : OpenHow → ℕ → Image → Type 0
 TakesMemory how sectors image =
-    (how.truncate ≡ true) ⊎ ((writes how.access ≡ false) × SaysArmed (sectors / 4) image)
+    (how.truncate ≡ true) ⊎ ((writes how.access ≡ false) × SaysUnsettled (sectors / 4) image)
 
 -- why an opening of a device with this image is refused
 abbrev pub Refuses : OpenHow → ℕ → Image → Fault → Type 0

@@ -12,6 +12,7 @@ ghost use Rattle.page_io.specs.Meaning.{FileStandsFor, ImageStandsFor};
 ghost use Rattle.page_io.specs.Page.{own_number};
 ghost use Rattle.page_io.specs.Store.{blank, bytes_of, page_of};
 ghost use Rattle.redo_area.specs.File.{settled};
+ghost use Rattle.redo_area.specs.Pagers.{kind_at};
 ghost use Rattle.seg_table.specs.MetaPages.{model_meta};
 ghost use Rattle.file_opening.specs.Opening.{room_fault, making_fault, bounds_of};
 ghost use Rattle.file_opening.specs.OpenFiles.{device_left, IsOpeningCall, IsJustOpened, StandsAs};
@@ -87,6 +88,7 @@ pub fn make_database<D: SectorDev>(
     ensures stands { D.honest dev → IfOk result (λ file. StandsAs file empty (bounds_of how)) }
     ensures meta { IfOk result (λ file.
         model_meta file.meta ≡ placement_meta (fresh_placement (bounds_of how))) }
+    ensures commits { IfOk result (λ file. kind_at file.store ≡ how.commits) }
     ensures asked { IfOk result (λ file. making_fault how (D.sectors dev) ≡ None) }
     ensures refused { IfErr result
         (λ e. e.1 ≢ Fault.Device → (making_fault how (D.sectors dev) ≡ Some e.1) × (e.0 ≡ dev)) }
@@ -102,7 +104,7 @@ pub fn make_database<D: SectorDev>(
         return Err((dev, fault));
     }
     let meta = Meta::of_empty(how.limit, how.version, 2);
-    match Pager::format(alloc, dev, &pages_of_empty(&meta)) {
+    match Pager::format(alloc, dev, how.commits, &pages_of_empty(&meta)) {
         Ok(store) => Ok(OpenFile {
             store,
             meta,

@@ -3,6 +3,7 @@ ghost use Rattle.std.specs.Prelude.{◌≡◌};
 ghost use Rattle.file_opening.specs.Opening.{writes, is_exclusive};
 
 use page_io::Version;
+use redo_area::CommitKind;
 
 /// What an opened database may be asked to do (POSIX: the access mode of the open flags).
 #[derive(Clone, Copy, Debug, PartialEq, Eq)]
@@ -43,6 +44,9 @@ pub struct OpenHow {
     pub limit: u32,
     /// The version of a database that is made or emptied. It is looked at in no other case.
     pub version: Version,
+    /// How the commits of a database that is made are made. It is looked at in no other case: one that
+    /// is emptied goes on as it was.
+    pub commits: CommitKind,
     /// How many pages that were read are kept in memory at most, of 2,048 bytes each: 1 to 65,536,
     /// and 256 where none is said. Memory is taken as they are read.
     pub kept_pages: Option<u32>,

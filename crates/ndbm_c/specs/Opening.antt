@@ -14,6 +14,7 @@ use Rattle.file_opening.specs.Opening.{writes, early_fault, IsRefusedOpening, Ma
 use Rattle.file_opening.specs.declared.open_how.OpenHow.{OpenHow}
 use Rattle.file_opening.specs.declared.open_how.Access.TheVariants.{ReadOnly, ReadWrite}
 use Rattle.page_io.specs.declared.version.Version.TheVariants.{V1, V2}
+use Rattle.redo_area.specs.declared.header.CommitKind.TheVariants.{Images, Log}
 use Rattle.dbm_file.specs.Database.{meta_kept}
 use Rattle.dbm_file.specs.Opened.{device_below, HasRoom, IsNewlyOpened, IsOpenedAt}
 use Rattle.listed_dev.specs.Listed.{history, list_of}
@@ -37,6 +38,7 @@ how_of how = record {
   truncate = how.truncate;
   limit = how.limit;
   version = if how.first_version then V1 else V2;
+  commits = if how.first_version then Images else Log;
   kept_pages = Some (if nat_eq how.kept_pages 0 then 16384 else how.kept_pages);
 }
 

@@ -2,7 +2,7 @@
 ghost use Rattle.std.specs.Prelude.{◌≡◌};
 ghost use Rattle.ndbm_c.specs.Opening.{how_of};
 
-use dbm_file::{Access, OpenHow, Version};
+use dbm_file::{Access, CommitKind, OpenHow, Version};
 use sect_dev::Past;
 
 // How many pages are kept in memory at most where nobody asks for another number, 32 MB of them.
@@ -25,7 +25,8 @@ pub struct How {
     pub create: bool,
     pub exclusive: bool,
     pub truncate: bool,
-    /// Whether a database that is made or emptied is one of version 1; else it is one of version 2.
+    /// Whether a database that is made or emptied is one of version 1, and a new one has its commits
+    /// made by redo images; else it is one of version 2, and a new one has them in a log.
     pub first_version: bool,
     pub limit: u32,
     /// How many pages are kept in memory at most, 1 to 65,536, or 0 for 16,384.
@@ -50,6 +51,11 @@ impl How {
                 Version::V1
             } else {
                 Version::V2
+            },
+            commits: if self.first_version {
+                CommitKind::Images
+            } else {
+                CommitKind::Log
             },
             kept_pages: Some(if self.kept_pages == 0 {
                 KEPT_PAGES

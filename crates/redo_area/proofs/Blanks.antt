@@ -1,5 +1,5 @@
 -- A device is blank exactly where its first sector is zeros.
-use Rattle.std.proofs.Common.{◌≡◌, ◌≢◌, inl, inr, ℕ, List, take, drop, replicate, ◌+◌, Bool, true, false, cond, ◌&&◌, eqb, leb, refl, sym, ◌∙◌, ap, subst}
+use Rattle.std.proofs.Common.{◌≡◌, ◌≢◌, inl, inr, ℕ, List, drop, replicate, ◌+◌, Bool, true, false, cond, ◌&&◌, eqb, leb, refl, sym, ◌∙◌, ap, subst}
 use Rattle.std.proofs.lemmas.Bool.{cases_eq}
 use Rattle.std.specs.Cmp.Lexicographic.{pointwise}
 use Rattle.sect_dev.specs.Device.{Image, Candidates, IsImageOf, with_sector}
@@ -7,19 +7,21 @@ use Rattle.sect_dev.specs.Moments.{at_same, at_other}
 use Rattle.sect_dev.specs.Sector.{zeros}
 use Rattle.page_model.specs.Bytes.{u32_at}
 use Rattle.page_io.specs.Store.{Pages, blank, file_of, nothing, are_in_order}
-use Rattle.redo_area.specs.Header.{magic, header_by, header_of}
+use Rattle.redo_area.specs.Header.{has_magic, is_magic, header_by, header_of}
+use Rattle.redo_area.specs.declared.header.CommitKind.TheVariants.{Log}
 use Rattle.redo_area.specs.declared.header.Header.{Header}
-use Rattle.redo_area.specs.declared.header.Header.TheVariants.{Blank, Clear, Armed, NotOurs, Damaged}
+use Rattle.redo_area.specs.declared.header.Header.TheVariants.{Blank, Clear, Armed, Logging, NotOurs, Damaged}
 use Rattle.redo_area.specs.File.{settled, settled_by, redo_images}
 use Rattle.redo_area.proofs.Headers.{bytes_same, header_of-zeros}
 
-never_blank : (in_range is_clear is_armed : Bool) (end start count : ℕ)
-    → cond in_range (cond is_clear (Clear end) (cond is_armed (Armed end start count) Damaged))
-    Damaged ≢ Blank
-never_blank true true is_armed end start count is = cc
-never_blank true false true end start count is = cc
-never_blank true false false end start count is = cc
-never_blank false is_clear is_armed end start count is = cc
+never_blank : (in_range is_clear is_armed is_logging : Bool) (end start count : ℕ)
+    → cond in_range (cond is_clear (Clear end) (cond is_armed (Armed end start count)
+    (cond is_logging (Logging start) Damaged))) Damaged ≢ Blank
+never_blank true true is_armed is_logging end start count is = cc
+never_blank true false true is_logging end start count is = cc
+never_blank true false false true end start count is = cc
+never_blank true false false false end start count is = cc
+never_blank false is_clear is_armed is_logging end start count is = cc
 
 by_tests : (empty ours padded : Bool) (said : Header) → said ≢ Blank
     → cond empty Blank (cond ours (cond padded said Damaged) NotOurs) ≡ Blank → empty ≡ true
@@ -36,22 +38,33 @@ zeros_of capacity sector is =
     let start = u32_at sector 16 in
     let count = u32_at sector 20 in
     bytes_same sector zeros
-    (by_tests (pointwise eqb sector zeros) (pointwise eqb magic (take 8 sector))
+    (by_tests (pointwise eqb sector zeros) (has_magic sector)
     (pointwise eqb (replicate 488 0) (drop 24 sector))
-    (header_by capacity state end start count)
+    (header_by capacity (is_magic Log sector) state end start count)
     (never_blank (leb 4 end && leb end capacity) (eqb state 0 && eqb start 0 && eqb count 0)
-    (eqb state 1 && leb 1 count && leb end start && leb (start + count) capacity) end
+    (eqb state 1 && leb 1 count && leb end start && leb (start + count) capacity)
+    (eqb state 2 && is_magic Log sector && eqb count 0 && leb end start
+    && leb (start + 32) capacity) end
     start count) is)
 
 over_images : (order : Bool) (pages : Pages) → cond order (file_of pages) nothing ≢ blank
 over_images true pages is = cc
 over_images false pages is = cc
 
+over_logs : (turned first second : Bool) (a b : Pages)
+    → cond turned (cond first nothing (file_of a)) (cond second nothing (file_of b)) ≢ blank
+over_logs true true second a b is = cc
+over_logs true false second a b is = cc
+over_logs false first true a b is = cc
+over_logs false first false a b is = cc
+
 blank_header : (header : Header) (image : Image) → settled_by header image ≡ blank → header ≡ Blank
 blank_header Blank image is = refl
 blank_header (Clear end) image is = cc
 blank_header (Armed end start count) image is =
     absurd (over_images (are_in_order 1 end (redo_images image start count)) _ is)
+blank_header (Logging start) image is =
+    absurd (over_logs _ _ _ _ _ is)
 blank_header NotOurs image is = cc
 blank_header Damaged image is = cc
 

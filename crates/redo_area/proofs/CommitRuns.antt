@@ -10,10 +10,11 @@ use Rattle.page_io.proofs.PageLaws.{at_same, at_other}
 use Rattle.page_io.specs.Store.{Pages, pages_from, file_of, file_pages, overlaid, are_in_order, bytes_of, IsEither}
 use Rattle.page_io.specs.declared.page.Page.{Page}
 use Rattle.redo_area.specs.Header.{header_of, spelled}
+use Rattle.redo_area.specs.declared.header.CommitKind.{CommitKind}
 use Rattle.redo_area.specs.declared.header.Header.TheVariants.{Armed}
-use Rattle.redo_area.specs.File.{settled, IsOutsideAll, IsAtRest, IsArmed}
+use Rattle.redo_area.specs.File.{settled, IsOutsideAll, IsAtRest, HoldsWaiting}
 use Rattle.redo_area.proofs.Headers.{says_clear, says_armed}
-use Rattle.redo_area.proofs.Images.{staging, armed_over, now_armed, going_home, going_on, images_stay, now_home, now_clear, settled-clear}
+use Rattle.redo_area.proofs.Images.{staging, armed_over, now_armed, beside_held, images_stay, now_home, now_clear, settled-clear}
 
 -- a run, and then the commit sector
 pub then_header : {D : Type 0} (dev : Ghosts D) (P : Image → Type 0) (first mid new : D)
@@ -48,10 +49,10 @@ module _ {D : Type 0} (dev : Ghosts D) (first mid : D) {old_end : ℕ}
       rest.header old some (λ m lt. rest.stable m (image m) (is m lt))))
 
   -- the commit sector is armed over them
-  pub armed_leaves : (after : D) (content : List ℕ) (new_end : ℕ) (pages : List Page)
+  pub armed_leaves : (kind : CommitKind) (after : D) (content : List ℕ) (new_end : ℕ) (pages : List Page)
       → dev.sectors first < 2 ^ 32 → 4 ≤ new_end → 0 < length pages
       → start + length pages ≤ dev.sectors first / 4
-      → content ≡ spelled 1 new_end start (length pages)
+      → content ≡ spelled kind 1 new_end start (length pages)
       → new_end ≤ start → are_in_order 1 new_end (bytes_of pages) ≡ true
       → IsStable (dev.candidate mid) (dev.seen mid)
       → ((m : ℕ) → m < 4 * start → dev.seen mid m ≡ dev.seen first m)
@@ -62,11 +63,11 @@ module _ {D : Type 0} (dev : Ghosts D) (first mid : D) {old_end : ℕ}
       (λ image. IsEither (file_pages (page_at (dev.seen first)) old_end)
       (file_pages (overlaid (bytes_of pages) (page_at (dev.seen first))) new_end)
       (settled (dev.sectors first / 4) image))
-  armed_leaves after content new_end pages fits least count room spells above in_order stable others
+  armed_leaves kind after content new_end pages fits least count room spells above in_order stable others
       written armed =
       let cap : ℕ = dev.sectors first / 4 in
       let new = file_pages (overlaid (bytes_of pages) (page_at (dev.seen first))) new_end in
-      let header = says_armed (dev.sectors first) new_end start (length pages) content fits least
+      let header = says_armed kind (dev.sectors first) new_end start (length pages) content fits least
       above count room spells in
       let both = now_armed cap (dev.seen mid) content new_end start (length pages) (bytes_of pages)
       (length-map pages (λ (p : Page). p.bytes)) header written some in
@@ -77,17 +78,17 @@ module _ {D : Type 0} (dev : Ghosts D) (first mid : D) {old_end : ℕ}
       (bytes_of pages) both.0 both.1 in_order above
       (λ m pos lt. at_other (dev.seen mid) 0 content m (omega (arith, pos)) ∙ others m lt)))
 
--- steps 3 and 4, from an armed device
-module _ {D : Type 0} (dev : Ghosts D) (first : D) {end start : ℕ} {redo : Pages}
-    (is_armed : IsArmed (dev.sectors first / 4) end start redo (dev.candidate first)
-    (dev.seen first)) (above : end ≤ start) where
-  -- only pages that have a redo image are changed
+-- steps 3 and 4, from a device that holds pages
+module _ {D : Type 0} (dev : Ghosts D) (first : D) {end start held : ℕ} {redo : Pages}
+    (holds : HoldsWaiting (dev.sectors first / 4) end start held redo (dev.candidate first)
+    (dev.seen first)) where
+  -- only pages that it holds are changed
   pub under_images : (image : Image)
       → ((m : ℕ) → IsOutsideAll redo m → dev.candidate first m (image m))
       → settled (dev.sectors first / 4) image
       ≡ file_of (file_pages (overlaid redo (page_at (dev.seen first))) end)
-  under_images image is = going_home (dev.sectors first / 4) (dev.candidate first) (dev.seen first)
-      image end start redo is_armed above (λ m out. is_armed.stable m (image m) (is m out))
+  under_images image is =
+      holds.settles image (λ m out _. holds.stable m (image m) (is m out))
 
   -- the pages are written at their own numbers
   pub homes_leave : (mid : D) → LeavesOnly dev.moment dev.left_since first mid
@@ -102,7 +103,7 @@ module _ {D : Type 0} (dev : Ghosts D) (first : D) {end start : ℕ} {redo : Pag
       put under_images
 
   -- the commit sector is cleared
-  pub clear_leaves : (mid new : D) (content : List ℕ)
+  pub clear_leaves : (kind : CommitKind) (mid new : D) (content : List ℕ)
       → LeavesOnly dev.moment dev.left_since first mid
       (λ image. settled (dev.sectors first / 4) image
       ≡ file_of (file_pages (overlaid redo (page_at (dev.seen first))) end))
@@ -110,40 +111,39 @@ module _ {D : Type 0} (dev : Ghosts D) (first : D) {end start : ℕ} {redo : Pag
       → ((m : ℕ) → IsOutsideAll redo m → dev.seen mid m ≡ dev.seen first m)
       → ((n : ℕ) → page_at (dev.seen mid) n ≡ overlaid redo (page_at (dev.seen first)) n)
       → dev.sectors first < 2 ^ 32 → 4 ≤ end → end ≤ dev.sectors first / 4
-      → content ≡ spelled 0 end 0 0
+      → content ≡ spelled kind 0 end 0 0
       → LeavesOnly dev.moment dev.left_since mid new
       (IsImageOf (with_candidate (dev.candidate mid) 0 content))
       → LeavesOnly dev.moment dev.left_since first new
       (λ image. settled (dev.sectors first / 4) image
       ≡ file_of (file_pages (overlaid redo (page_at (dev.seen first))) end))
-  clear_leaves mid new content run stable others written fits least room spells put =
+  clear_leaves kind mid new content run stable others written fits least room spells put =
       let cap : ℕ = dev.sectors first / 4 in
       then_header dev (λ image. settled cap image
       ≡ file_of (file_pages (overlaid redo (page_at (dev.seen first))) end)) first mid new
       content run stable put
-      (going_home cap (dev.candidate first) (dev.seen first) (dev.seen mid) end start redo
-      is_armed above others)
+      (holds.settles (dev.seen mid) (λ m out _. others m out))
       (settled-clear cap (with_sector (dev.seen mid) 0 content) end
       (ap (header_of cap) (at_same (dev.seen mid) 0 content 0 refl)
-      ∙ says_clear (dev.sectors first) end content fits least room spells)
+      ∙ says_clear kind (dev.sectors first) end content fits least room spells)
       ∙ ap file_of (now_clear cap (dev.seen first) (dev.seen mid) content end redo written))
 
--- steps 3 and 1 with one sync, and then step 2, from an armed device
-module _ {D : Type 0} (dev : Ghosts D) (first mid : D) {old_end old_start : ℕ} {waiting : Pages}
-    (is_armed : IsArmed (dev.sectors first / 4) old_end old_start waiting (dev.candidate first)
-    (dev.seen first)) (start count : ℕ) (behind : old_end ≤ old_start) (old : old_end ≤ start)
-    (some : 1 ≤ start) (far : (start + count ≤ old_start) ⊎ (old_start + length waiting ≤ start))
+-- steps 3 and 1 with one sync, and then step 2, from a device that holds pages
+module _ {D : Type 0} (dev : Ghosts D) (first mid : D) {old_end old_start held : ℕ}
+    {waiting : Pages}
+    (holds : HoldsWaiting (dev.sectors first / 4) old_end old_start held waiting (dev.candidate first)
+    (dev.seen first)) (start count : ℕ) (old : old_end ≤ start)
+    (some : 1 ≤ start) (far : (start + count ≤ old_start) ⊎ (old_start + held ≤ start))
     (put : LeavesOnly dev.moment dev.left_since first mid
     (KeepsWhere (dev.candidate first) (IsOutside (4 * start) (4 * (start + count))))) where
-  -- only pages that have a redo image are changed, and sectors beside the images
+  -- only pages that it holds are changed, and sectors of the new images
   waiting_stay : (image : Image)
       → ((m : ℕ) → IsOutsideAll waiting m → IsOutside (4 * start) (4 * (start + count)) m
       → dev.candidate first m (image m))
       → settled (dev.sectors first / 4) image
       ≡ file_of (file_pages (overlaid waiting (page_at (dev.seen first))) old_end)
-  waiting_stay image is = going_on (dev.sectors first / 4) (dev.candidate first) (dev.seen first)
-      image old_end old_start start count waiting is_armed behind old some far
-      (λ m out apart. is_armed.stable m (image m) (is m out apart))
+  waiting_stay image is = beside_held (dev.sectors first / 4) holds start count old far image
+      (λ m out apart. holds.stable m (image m) (is m out apart))
 
   -- the new images are written
   pub beside_leave : (new : Pages) → LeavesOnly dev.moment dev.left_since first mid
@@ -200,11 +200,10 @@ module _ {D : Type 0} (dev : Ghosts D) (first mid : D) {old_end old_start : ℕ}
       let both = now_armed cap (dev.seen home) content new_end start count (bytes_of pages)
       (length-map pages (λ (p : Page). p.bytes) ∙ long) header
       (images_stay (dev.seen mid) (dev.seen home) old_end start count waiting (bytes_of pages)
-      is_armed.in_order old others written) some in
+      holds.in_order old others written) some in
       then_header dev (λ image. IsEither (file_pages before old_end) new (settled cap image)) first
       home after content (both_leave home new fewer homes) stable armed
-      (inl (going_on cap (dev.candidate first) (dev.seen first) (dev.seen home) old_end old_start
-      start count waiting is_armed behind old some far
+      (inl (beside_held cap holds start count old far (dev.seen home)
       (λ m out apart. others m out ∙ beside m apart)))
       (inr (armed_over cap (dev.seen home) (with_sector (dev.seen home) 0 content) new_end start
       (bytes_of pages) both.0 both.1 in_order above

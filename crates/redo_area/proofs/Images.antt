@@ -1,5 +1,5 @@
 -- What the images of each step of a commit settle to.
-use Rattle.std.proofs.Common.{◌≡◌, ◌⊎◌, inl, inr, ℕ, zero, suc, ◌+◌, ◌*◌, ◌<◌, ◌≤◌, List, [], ◌∷◌, length, get_or, Bool, true, false, cond, ◌&&◌, leb, ltb, refl, sym, ◌∙◌, ap, arith}
+use Rattle.std.proofs.Common.{◌≡◌, ◌⊎◌, inl, inr, ⊎_elim, ℕ, zero, suc, ◌+◌, ◌*◌, ◌<◌, ◌≤◌, List, [], ◌∷◌, length, get_or, Bool, true, false, cond, ◌&&◌, leb, ltb, refl, sym, ◌∙◌, ap, arith}
 use Rattle.std.proofs.lemmas.Bool.{cases_lt, and_parts, leb-true, ltb-true}
 use Rattle.sect_dev.specs.Device.{Image, Candidates, IsStable, with_sector}
 use Rattle.page_io.specs.Page.{page_at, own_number, IsOutside, IsOutsidePage}
@@ -8,8 +8,10 @@ use Rattle.page_io.specs.Store.{Pages, blank, file_of, nothing, pages_from, file
 use Rattle.page_io.proofs.Overlays.{same_pages, same_file, IsApart, overlaid-over}
 use Rattle.redo_area.specs.Header.{header_of}
 use Rattle.redo_area.specs.declared.header.Header.{Header}
-use Rattle.redo_area.specs.declared.header.Header.TheVariants.{Blank, Clear, Armed, NotOurs, Damaged}
-use Rattle.redo_area.specs.File.{settled, settled_by, settled_over, redo_images, IsOutsideAll, IsAtRest, IsArmed}
+use Rattle.redo_area.specs.declared.header.Header.TheVariants.{Blank, Clear, Armed, Logging, NotOurs, Damaged}
+use Rattle.commit_log.specs.Log.{settled_at, IsLogged}
+use Rattle.commit_log.proofs.LogHolds.{log_holds}
+use Rattle.redo_area.specs.File.{settled, settled_by, settled_over, redo_images, IsOutsideAll, IsAtRest, IsArmed, IsHeld, HoldsWaiting}
 
 record Parts (least end own : ℕ) (rest : Bool) : Type 0 where
   low : least ≤ own
@@ -81,13 +83,6 @@ same_new first mid redo end start le same =
     (λ apart. same_page mid first n
     (λ m ge4 lt4. same m (omega (arith, ge, ge4)) (omega (arith, lt, le, lt4)))))
 
--- a sector of redo images is none of those that are written beside them
-beside : (start long from count n m : ℕ) → (from + count ≤ start) ⊎ (start + long ≤ from)
-    → start ≤ n → n < start + long → 4 * n ≤ m → m < 4 * n + 4
-    → IsOutside (4 * from) (4 * (from + count)) m
-beside start long from count n m (inl below) ge lt ge4 lt4 = inr (omega (arith, below, ge, ge4))
-beside start long from count n m (inr above) ge lt ge4 lt4 = inl (omega (arith, above, lt, lt4))
-
 -- pages came to their own numbers, and what else was written stands behind
 pub now_home : (first written mid : Image) (from : ℕ) (redo : Pages)
     → ((n : ℕ) → page_at mid n ≡ overlaid redo (page_at written) n)
@@ -124,6 +119,11 @@ module _ (capacity : ℕ) where
       ∙ ap (λ (r : Pages). settled_over r image end) images
       ∙ ap (λ (b : Bool). cond b (file_of (file_pages (overlaid redo (page_at image)) end)) nothing)
       order
+
+  pub settled-logging : (image : Image) (start : ℕ) → header_of capacity (image 0) ≡ Logging start
+      → settled capacity image ≡ settled_at image start
+  unfolding settled
+  settled-logging image start is = ap (λ (h : Header). settled_by h image) is
 
   pub settled-blank : (image : Image) → header_of capacity (image 0) ≡ Blank
       → settled capacity image ≡ blank
@@ -172,47 +172,60 @@ module _ (capacity : ℕ) where
       settled-armed image end start redo header images order
       ∙ ap file_of (same_new seen image redo end start le same)
 
-  -- step 3: home pages are written under the images
-  pub going_home : (candidate : Candidates) (seen image : Image) (end start : ℕ) (redo : Pages)
-      → IsArmed capacity end start redo candidate seen → end ≤ start
-      → ((m : ℕ) → IsOutsideAll redo m → image m ≡ seen m)
-      → settled capacity image ≡ file_of (file_pages (overlaid redo (page_at seen)) end)
-  going_home candidate seen image end start redo is le same =
-      settled-armed image end start redo
-      (ap (header_of capacity) (same 0 (outside-below 1 end redo 0 is.in_order (omega arith)))
-      ∙ is.header)
-      (same_pages (page_at image) (page_at seen) start (length redo)
-      (λ n ge lt. same_page image seen n
-      (λ m ge4 lt4. same m (outside-above 1 end redo m is.in_order
-      (omega (arith, ge, le, ge4))))) ∙ is.images)
-      is.in_order
-      ∙ ap file_of (same_file (overlaid redo (page_at image)) (overlaid redo (page_at seen)) end
-      (λ n ge lt. overlaid-over redo (page_at seen) (page_at image) n
-      (λ apart. same_page image seen n
-      (λ m ge4 lt4. same m (outside-apart redo n m apart ge4 lt4)))))
+  -- step 3: home pages are written under the images, and others behind the end beside these
+  pub armed_holds : {candidate : Candidates} {seen : Image} {end start : ℕ} {redo : Pages}
+      → IsArmed capacity end start redo candidate seen → end ≤ start → 1 ≤ end
+      → HoldsWaiting capacity end start (length redo) redo candidate seen
+  armed_holds {candidate} {seen} {end} {start} {redo} is le some = record {
+    stable = is.stable;
+    in_order = is.in_order;
+    settles = λ image same.
+        settled-armed image end start redo
+        (ap (header_of capacity) (same 0 (outside-below 1 end redo 0 is.in_order (omega arith))
+        (inl (omega (arith, some)))) ∙ is.header)
+        (same_pages (page_at image) (page_at seen) start (length redo)
+        (λ n ge lt. same_page image seen n
+        (λ m ge4 lt4. same m (outside-above 1 end redo m is.in_order
+        (omega (arith, ge, le, ge4)))
+        (inr (omega (arith, ge, ge4), omega (arith, lt, lt4))))) ∙ is.images)
+        is.in_order
+        ∙ ap file_of (same_file (overlaid redo (page_at image)) (overlaid redo (page_at seen)) end
+        (λ n ge lt. overlaid-over redo (page_at seen) (page_at image) n
+        (λ apart. same_page image seen n
+        (λ m ge4 lt4. same m (outside-apart redo n m apart ge4 lt4)
+        (inl (omega (arith, lt, lt4)))))));
+  }
 
-  -- steps 3 and 1: home pages are written under the images, and further images beside these
-  pub going_on : (candidate : Candidates) (seen image : Image) (end start from count : ℕ)
-      (redo : Pages) → IsArmed capacity end start redo candidate seen → end ≤ start → end ≤ from
-      → 1 ≤ from → (from + count ≤ start) ⊎ (start + length redo ≤ from)
-      → ((m : ℕ) → IsOutsideAll redo m → IsOutside (4 * from) (4 * (from + count)) m
+  -- the same under a log
+  pub logged_holds : {candidate : Candidates} {seen : Image} {end start number at beside : ℕ}
+      {waiting : Pages} → IsLogged end start number at beside waiting candidate seen
+      → header_of capacity (seen 0) ≡ Logging start
+      → HoldsWaiting capacity end start 32 waiting candidate seen
+  logged_holds {candidate} {seen} {end} {start} is header = record {
+    stable = is.stable;
+    in_order = is.in_order;
+    settles = λ image same.
+        settled-logging image start
+        (ap (header_of capacity) (same 0 (outside-below 1 end _ 0 is.in_order (omega arith))
+        (inl (omega (arith, is.least)))) ∙ header)
+        ∙ log_holds is image (λ m out held. same m out
+        (⊎_elim (λ low. inl low) (λ high. inr (high.0, omega (arith, high.1))) held));
+  }
+
+  -- what is written beside it
+  pub beside_held : {candidate : Candidates} {seen : Image} {end start held : ℕ} {waiting : Pages}
+      → HoldsWaiting capacity end start held waiting candidate seen → (from count : ℕ) → end ≤ from
+      → (from + count ≤ start) ⊎ (start + held ≤ from) → (image : Image)
+      → ((m : ℕ) → IsOutsideAll waiting m → IsOutside (4 * from) (4 * (from + count)) m
       → image m ≡ seen m)
-      → settled capacity image ≡ file_of (file_pages (overlaid redo (page_at seen)) end)
-  going_on candidate seen image end start from count redo is le low some far same =
-      settled-armed image end start redo
-      (ap (header_of capacity) (same 0 (outside-below 1 end redo 0 is.in_order (omega arith))
-      (inl (omega (arith, some)))) ∙ is.header)
-      (same_pages (page_at image) (page_at seen) start (length redo)
-      (λ n ge lt. same_page image seen n
-      (λ m ge4 lt4. same m (outside-above 1 end redo m is.in_order
-      (omega (arith, ge, le, ge4)))
-      (beside start (length redo) from count n m far ge lt ge4 lt4))) ∙ is.images)
-      is.in_order
-      ∙ ap file_of (same_file (overlaid redo (page_at image)) (overlaid redo (page_at seen)) end
-      (λ n ge lt. overlaid-over redo (page_at seen) (page_at image) n
-      (λ apart. same_page image seen n
-      (λ m ge4 lt4. same m (outside-apart redo n m apart ge4 lt4)
-      (inl (omega (arith, lt, low, lt4)))))))
+      → settled capacity image ≡ file_of (file_pages (overlaid waiting (page_at seen)) end)
+  beside_held {candidate} {seen} {end} {start} {held} holds from count low far image same =
+      holds.settles image (λ m out is. same m out (apart m is))
+    where
+      apart : (m : ℕ) → IsHeld end start held m → IsOutside (4 * from) (4 * (from + count)) m
+      apart m (inl front) = inl (omega (arith, front, low))
+      apart m (inr within) = ⊎_elim (λ before. inr (omega (arith, before, within.0)))
+          (λ behind. inl (omega (arith, behind, within.1))) far
 
   -- after step 2
   pub now_armed : (mid : Image) (content : List ℕ) (end start count : ℕ) (redo : Pages)

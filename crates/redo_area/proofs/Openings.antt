@@ -1,17 +1,18 @@
 -- What a device opens with, and why it is refused, from what its commit sector says.
-use Rattle.std.proofs.Common.{◌≡◌, ◌≢◌, ◌⊎◌, ⊎_elim, ◌+◌, ◌≤◌, ◌/◌, ℕ, List, [], Bool, true, false, cond, Some, sym, ◌∙◌, ap, arith}
+use Rattle.std.proofs.Common.{◌≡◌, ◌≢◌, ◌⊎◌, inl, inr, ⊎_elim, ◌+◌, ◌≤◌, ◌/◌, ℕ, List, [], Bool, true, false, cond, Some, sym, ◌∙◌, ap, arith}
 use Rattle.sect_dev.specs.Device.{Image}
 use Rattle.page_io.specs.Page.{page_at}
 use Rattle.page_io.specs.Store.{Pages, Settled, nothing, file_of, pages_from, file_pages, overlaid, are_in_order}
 use Rattle.page_io.specs.Counts.{length-pages_from}
+use Rattle.commit_log.specs.Log.{settled_at}
 use Rattle.redo_area.specs.Header.{header_of, has_magic}
 use Rattle.redo_area.specs.declared.header.Header.{Header}
-use Rattle.redo_area.specs.declared.header.Header.TheVariants.{Blank, Clear, Armed, NotOurs, Damaged}
+use Rattle.redo_area.specs.declared.header.Header.TheVariants.{Blank, Clear, Armed, Logging, NotOurs, Damaged}
 use Rattle.redo_area.specs.File.{settled, redo_images}
-use Rattle.redo_area.specs.Opening.{refusal_by, refusal_of, SaysArmed}
+use Rattle.redo_area.specs.Opening.{refusal_by, refusal_of, SaysUnsettled}
 use Rattle.redo_area.specs.declared.open_fault.OpenFault.{OpenFault}
 use Rattle.redo_area.specs.declared.open_fault.OpenFault.TheVariants.{Memory, Device, Blank as BlankFault, NotOurs as NotOursFault, Damaged as DamagedFault}
-use Rattle.redo_area.proofs.Images.{settled-blank, settled-clear, settled-armed, settled-disordered, settled-not_ours, settled-damaged}
+use Rattle.redo_area.proofs.Images.{settled-blank, settled-clear, settled-armed, settled-logging, settled-disordered, settled-not_ours, settled-damaged}
 
 -- an end below the redo images
 pub below_room : (end start count capacity : ℕ) → end ≤ start → start + count ≤ capacity
@@ -28,9 +29,13 @@ module _ {sectors found : ℕ} (seen : Image) {content : List ℕ} (same : found
 
   -- the header with its fields
   pub says_armed : (end start count : ℕ) → Armed end start count ≡ header_of (found / 4) content
-      → SaysArmed (sectors / 4) seen
-  says_armed end start count said = record
-      { end = end; start = start; count = count; header = as_read (Armed end start count) said }
+      → SaysUnsettled (sectors / 4) seen
+  says_armed end start count said = inl (record
+      { end = end; start = start; count = count; header = as_read (Armed end start count) said })
+
+  pub says_logging : (start : ℕ) → Logging start ≡ header_of (found / 4) content
+      → SaysUnsettled (sectors / 4) seen
+  says_logging start said = inr (record { start = start; header = as_read (Logging start) said })
 
   pub refused-blank : Blank ≡ header_of (found / 4) content
       → refusal_of (sectors / 4) seen ≡ Some BlankFault
@@ -86,4 +91,23 @@ module _ {sectors found : ℕ} (seen : Image) {content : List ℕ} (same : found
       ⊎_elim (λ is. absurd (device is)) (λ rest. ⊎_elim (λ is. absurd (memory is))
       (λ is. refused-images (settled-disordered (sectors / 4) seen end start count
       (as_read (Armed end start count) said) (damaged is)) ours ∙ ap Some (sym is))
+      rest) only
+
+  pub found-logging : (end start : ℕ) (redo : Pages)
+      → Logging start ≡ header_of (found / 4) content
+      → settled_at seen start ≡ file_of (file_pages (overlaid redo (page_at seen)) end)
+      → settled (sectors / 4) seen ≡ file_of (file_pages (overlaid redo (page_at seen)) end)
+  found-logging end start redo said is =
+      settled-logging (sectors / 4) seen start (as_read (Logging start) said) ∙ is
+
+  -- the fault of reading a log
+  pub refused-logging : (fault : OpenFault) (start : ℕ)
+      → Logging start ≡ header_of (found / 4) content → has_magic content ≡ true
+      → (fault ≡ Device) ⊎ ((fault ≡ Memory) ⊎ (fault ≡ DamagedFault))
+      → (fault ≡ DamagedFault → settled_at seen start ≡ nothing)
+      → fault ≢ Device → fault ≢ Memory → refusal_of (sectors / 4) seen ≡ Some fault
+  refused-logging fault start said ours only damaged device memory =
+      ⊎_elim (λ is. absurd (device is)) (λ rest. ⊎_elim (λ is. absurd (memory is))
+      (λ is. refused-images (settled-logging (sectors / 4) seen start
+      (as_read (Logging start) said) ∙ damaged is) ours ∙ ap Some (sym is))
       rest) only

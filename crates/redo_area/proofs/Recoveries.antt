@@ -7,8 +7,9 @@ use Rattle.page_io.specs.Page.{page_at, KeepsWhere}
 use Rattle.page_io.specs.Store.{Pages, file_of, pages_from, file_pages, overlaid, are_in_order}
 use Rattle.page_io.specs.Counts.{length-pages_from}
 use Rattle.redo_area.specs.Header.{header_of, spelled}
+use Rattle.redo_area.specs.declared.header.CommitKind.{CommitKind}
 use Rattle.redo_area.specs.declared.header.Header.TheVariants.{Armed}
-use Rattle.redo_area.specs.File.{settled, redo_images, SettlesAsBefore, IsOutsideAll, IsArmed}
+use Rattle.redo_area.specs.File.{settled, redo_images, SettlesAsBefore, IsOutsideAll, HoldsWaiting}
 use Rattle.redo_area.proofs.Images.{settled-armed}
 use Rattle.redo_area.proofs.CommitRuns.{under_images, homes_leave, clear_leaves}
 
@@ -49,10 +50,10 @@ module _ {D : Type 0} (dev : Ghosts D) (first mid : D)
         → IsImageOf (dev.candidate first) (dev.seen new)
     still_at_start seen m = fewer m (dev.seen new m) (fewer' m (dev.seen new m) (seen m))
 
--- images are copied home and synced, on an armed device
-module _ {D : Type 0} (dev : Ghosts D) (first mid synced : D) {end start : ℕ} {redo : Pages}
-    (is_armed : IsArmed (dev.sectors first / 4) end start redo (dev.candidate first)
-    (dev.seen first)) (above : end ≤ start)
+-- pages that a device holds come home, and a sync
+module _ {D : Type 0} (dev : Ghosts D) (first mid synced : D) {end start held : ℕ} {redo : Pages}
+    (holds : HoldsWaiting (dev.sectors first / 4) end start held redo (dev.candidate first)
+    (dev.seen first))
     (put : LeavesOnly dev.moment dev.left_since first mid
     (KeepsWhere (dev.candidate first) (IsOutsideAll redo)))
     (candidates : (m : ℕ) (c : List ℕ) → IsOutsideAll redo m → dev.candidate mid m c
@@ -68,24 +69,24 @@ module _ {D : Type 0} (dev : Ghosts D) (first mid synced : D) {end start : ℕ} 
       (λ image. settled (dev.sectors first / 4) image
       ≡ file_of (file_pages (overlaid redo (page_at (dev.seen first))) end))
       (IsImageOf (dev.candidate synced))
-      (homes_leave dev first is_armed above mid put) time
-      (λ image is. under_images dev first is_armed above image
+      (homes_leave dev first holds mid put) time
+      (λ image is. under_images dev first holds image
       (λ m out. candidates m (image m) out (fewer m (image m) (is m))))
 
   -- and the commit sector is cleared
-  pub replay_leaves : (new : D) (content : List ℕ) → dev.seen synced ≡ dev.seen mid
+  pub replay_leaves : (kind : CommitKind) (new : D) (content : List ℕ) → dev.seen synced ≡ dev.seen mid
       → IsStable (dev.candidate synced) (dev.seen synced)
       → ((m : ℕ) → IsOutsideAll redo m → dev.seen mid m ≡ dev.seen first m)
       → ((n : ℕ) → page_at (dev.seen mid) n ≡ overlaid redo (page_at (dev.seen first)) n)
       → dev.sectors first < 2 ^ 32 → 4 ≤ end → end ≤ dev.sectors first / 4
-      → content ≡ spelled 0 end 0 0
+      → content ≡ spelled kind 0 end 0 0
       → LeavesOnly dev.moment dev.left_since synced new
       (IsImageOf (with_candidate (dev.candidate synced) 0 content))
       → LeavesOnly dev.moment dev.left_since first new
       (λ image. settled (dev.sectors first / 4) image
       ≡ file_of (file_pages (overlaid redo (page_at (dev.seen first))) end))
-  replay_leaves new content same stable others written fits least room spells cleared =
-      clear_leaves dev first is_armed above synced new content sync_leaves stable
+  replay_leaves kind new content same stable others written fits least room spells cleared =
+      clear_leaves dev first holds kind synced new content sync_leaves stable
       (λ m out. ap (λ (s : Image). s m) same ∙ others m out)
       (λ n. ap (λ (s : Image). page_at s n) same ∙ written n)
       fits least room spells cleared

@@ -1,5 +1,5 @@
 -- What an answer carries, as `Ok` or as a fault.
-use Rattle.std.proofs.Common.{◌≡◌, ◌≤◌, ℕ, Bool, true, false, sym, ◌∙◌, Result, Ok, Err, is_err, OnOk, OnErr, arith}
+use Rattle.std.proofs.Common.{◌≡◌, ◌≤◌, ℕ, Bool, true, false, sym, ◌∙◌, subst, Option, Some, None, IfSome, IfNone, IfOk, IfErr, Result, Ok, Err, refl, is_err, OnOk, OnErr, arith}
 use denote.Enum.Bare.{sameb, same_false}
 use Rattle.std.specs.Prelude.{IsErrOf}
 use Rattle.sect_dev.specs.Device.{HasCause}
@@ -45,3 +45,26 @@ cause_first (Err y) e b c cause = record { later = cause.later; fault = cause.fa
 
 pub cause_ok : {T E : Type 0} (x : T) (a c : ℕ) → a ≤ c → HasCause {T = T} {E = E} a c (Ok x)
 cause_ok x a c le = record { later = le; fault = tt }
+
+pub map_ok : {T E P Q : Type 0} (r : Result T E) → OnOk r P → (P → Q) → OnOk r Q
+map_ok (Ok x) p then = then p
+map_ok (Err e) p then = tt
+
+-- what holds of an answer that there is, and of none
+pub from_some : {T : Type 0} (P : T → Type 0) (answer : Option T) (x : T) → answer ≡ Some x
+    → IfSome answer P → P x
+from_some {T} P answer x is p = subst (λ (a : Option T). IfSome a P) is p
+
+pub from_none : {T P : Type 0} (answer : Option T) → answer ≡ None → IfNone answer P → P
+from_none {T} {P} answer is p = subst (λ (a : Option T). IfNone a P) is p
+
+-- what holds of what was answered well, and of each fault
+pub ok_then : {T E : Type 0} (P Q : T → Type 0) (r : Result T E) → IfOk r P
+    → ((x : T) → P x → Q x) → IfOk r Q
+ok_then P Q (Ok x) p then = then x p
+ok_then P Q (Err e) p then = tt
+
+pub err_then : {T E : Type 0} (P Q : E → Type 0) (r : Result T E) → IfErr r P
+    → ((e : E) → r ≡ Err e → P e → Q e) → IfErr r Q
+err_then P Q (Ok x) p then = tt
+err_then P Q (Err e) p then = then e refl p

@@ -5,3 +5,4 @@ pub mod Opening
 pub mod Pagers
 pub mod SectorExamples
 pub mod Settling
+pub mod Ways

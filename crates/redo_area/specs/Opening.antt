@@ -1,9 +1,9 @@
 -- What opening a device answers.
-use Rattle.std.specs.Prelude.{◌≡◌, ◌≢◌, ◌≤◌, ℕ, [], true, Bool, if◌then◌else◌, Option, Some, None, Result, IfErr}
+use Rattle.std.specs.Prelude.{◌≡◌, ◌≢◌, ◌⊎◌, ◌≤◌, ℕ, [], true, Bool, if◌then◌else◌, Option, Some, None, Result, IfErr}
 use Rattle.sect_dev.specs.Device.{Image, Candidates, IsImageOf, IsStable, MoreFaults}
 use Rattle.page_io.specs.Store.{Settled, StoreState, blank, file_of, nothing}
 use Rattle.redo_area.specs.Header.{header_of, has_magic}
-use Rattle.redo_area.specs.declared.header.Header.TheVariants.{Armed}
+use Rattle.redo_area.specs.declared.header.Header.TheVariants.{Armed, Logging}
 use Rattle.redo_area.specs.File.{settled}
 use Rattle.redo_area.specs.declared.open_fault.OpenFault.{OpenFault}
 use Rattle.redo_area.specs.declared.open_fault.OpenFault.TheVariants.{Memory, Device, Blank, NotOurs, Damaged}
@@ -23,6 +23,15 @@ pub record SaysArmed (capacity : ℕ) (image : Image) : Type 0 where
   pub start : ℕ
   pub count : ℕ
   pub header : header_of capacity (image 0) ≡ Armed end start count
+
+-- the commit sector of an image names a log
+pub record SaysLogging (capacity : ℕ) (image : Image) : Type 0 where
+  pub start : ℕ
+  pub header : header_of capacity (image 0) ≡ Logging start
+
+-- pages of an image stand beside their own numbers, which opening for reading takes into memory
+abbrev pub SaysUnsettled : ℕ → Image → Type 0
+SaysUnsettled capacity image = SaysArmed capacity image ⊎ SaysLogging capacity image
 
 -- the one image that is left is one that the device had at the start, and does not open
 pub record IsRefused (capacity : ℕ) (start now : Candidates) (seen : Image)

@@ -1,33 +1,52 @@
 -- A pager on the device below it.
-use Rattle.std.specs.Prelude.{◌≡◌, ◌<◌, ◌/◌, ◌^◌, ℕ, Bool, true, if◌then◌else◌, [], length}
-use Rattle.std.proofs.Common.{sym, ◌∙◌, ap, arith}
+use Rattle.std.specs.Prelude.{◌≡◌, ◌<◌, ◌≤◌, ◌+◌, ◌*◌, ◌/◌, ◌^◌, ℕ, Bool, true, [], None, Some}
+use Rattle.std.proofs.Common.{refl, sym, ◌∙◌, ap, arith}
 use Rattle.sect_dev.specs.Device.{Image, Candidates, IsImageOf, IsStable}
 use Rattle.page_io.specs.Page.{page_at}
-use Rattle.page_io.specs.Store.{Pages, Settled, nothing, file_of, file_pages, overlaid}
-use Rattle.redo_area.specs.Header.{header_of}
+use Rattle.page_io.specs.Store.{Pages, Settled, file_of, file_pages, overlaid}
+use Rattle.commit_log.specs.Log.{IsLogged}
+use Rattle.redo_area.specs.declared.area.LogPlace.{LogPlace}
+use Rattle.redo_area.specs.declared.area.RedoArea.{RedoArea}
+use Rattle.redo_area.specs.Header.{header_of, kind_of}
 use Rattle.redo_area.specs.declared.header.Header.{Header}
-use Rattle.redo_area.specs.declared.header.Header.TheVariants.{Clear}
-use Rattle.redo_area.specs.File.{settled, settled_by, settled_over, IsAtRest, IsArmed}
+use Rattle.redo_area.specs.declared.header.Header.TheVariants.{Clear, Logging}
+use Rattle.redo_area.specs.File.{settled, settled_by, IsAtRest, HoldsWaiting}
 
--- all is on the disk; the commit sector is clear where no page waits, else it is armed over the
--- redo images of those that wait
-pub record MayWait (capacity end start : ℕ) (waiting : Pages) (candidate : Candidates)
+-- the commit sector names a log from page `start` on, whose newest commit has the pages that wait
+pub record IsInLog (capacity end start : ℕ) (waiting : Pages) (candidate : Candidates)
+    (seen : Image) (log : LogPlace) : Type 0 where
+  pub header : header_of capacity (seen 0) ≡ Logging start
+  pub logged : IsLogged end start log.number log.at log.beside waiting candidate seen
+
+-- a device of so many pages has room for such a log
+pub record HasLogRoom (capacity start : ℕ) (log : LogPlace) : Type 0 where
+  pub room : start + 32 ≤ capacity
+  pub at : log.at ≤ 4 * start + 64
+  pub beside : log.beside ≤ 4 * start + 64
+
+-- all is on the disk; the commit sector is clear where no page waits, else it says those that wait,
+-- which stand in the redo area
+pub record MayWait (capacity end : ℕ) (area : RedoArea) (waiting : Pages) (candidate : Candidates)
     (seen : Image) : Type 0 where
   pub stable : IsStable candidate seen
-  pub clear : length waiting ≡ 0 → header_of capacity (seen 0) ≡ Clear end
-  pub armed : 0 < length waiting → IsArmed capacity end start waiting candidate seen
+  pub kind : kind_of (seen 0) ≡ area.kind
+  pub clear : area.held ≡ 0 → (waiting ≡ []) × (header_of capacity (seen 0) ≡ Clear end)
+  pub holds : 0 < area.held → HoldsWaiting capacity end area.start area.held waiting candidate seen
+  pub logs : (log : LogPlace) → area.log ≡ Some log
+      → IsInLog capacity end area.start waiting candidate seen log
 
 -- what a read gives settles to the committed pages, and a writable pager knows its commit sector
-pub record SettlesToPages (writable : Bool) (capacity end start : ℕ) (waiting : Pages)
+pub record SettlesToPages (writable : Bool) (capacity end : ℕ) (area : RedoArea) (waiting : Pages)
     (candidate : Candidates) (seen : Image) : Type 0 where
   pub settles : settled capacity seen ≡ file_of (file_pages (overlaid waiting (page_at seen)) end)
-  pub waits : writable ≡ true → MayWait capacity end start waiting candidate seen
+  pub waits : writable ≡ true → MayWait capacity end area waiting candidate seen
 
 -- so it is with a usable pager
-abbrev pub SettlesIfUsable : Type 0 → Bool → Bool → ℕ → ℕ → ℕ → Pages → Candidates → Image → Type 0
-SettlesIfUsable honest usable writable capacity end start waiting candidate seen =
+abbrev pub SettlesIfUsable : Type 0 → Bool → Bool → ℕ → ℕ → RedoArea → Pages → Candidates → Image
+    → Type 0
+SettlesIfUsable honest usable writable capacity end area waiting candidate seen =
     honest → usable ≡ true
-    → SettlesToPages writable capacity end start waiting candidate seen
+    → SettlesToPages writable capacity end area waiting candidate seen
 
 -- some image of these settles so
 pub record SettlesTo (capacity : ℕ) (candidate : Candidates) (outcome : Settled) : Type 0 where
@@ -42,44 +61,51 @@ pub seen_settles : (capacity end : ℕ) (candidate : Candidates) (seen : Image)
 unfolding settled
 seen_settles capacity end candidate seen rest = ap (λ (h : Header). settled_by h seen) rest.header
 
+none_some : {log : LogPlace} → None ≡ Some log → ⊥
+none_some is = cc
+
 -- a pager at rest, where no page waits
-pub rests_at : (writable : Bool) (capacity end start : ℕ) (waiting : Pages)
-    (candidate : Candidates) (seen : Image) → waiting ≡ [] → IsAtRest capacity end candidate seen
-    → SettlesToPages writable capacity end start waiting candidate seen
-rests_at writable capacity end start waiting candidate seen none rest = record {
+pub rests_at : (writable : Bool) (capacity end : ℕ) (area : RedoArea) (waiting : Pages)
+    (candidate : Candidates) (seen : Image) → area.held ≡ 0 → area.log ≡ None → waiting ≡ []
+    → IsAtRest capacity end candidate seen → (writable ≡ true → kind_of (seen 0) ≡ area.kind)
+    → SettlesToPages writable capacity end area waiting candidate seen
+rests_at writable capacity end area waiting candidate seen zero no_log none rest kind = record {
   settles = seen_settles capacity end candidate seen rest
       ∙ ap (λ (ps : Pages). file_of (file_pages (overlaid ps (page_at seen)) end)) (sym none);
   waits = λ is. record {
     stable = rest.stable;
-    clear = λ zero. rest.header;
-    armed = λ some. absurd (omega (arith, some, ap length none));
+    kind = kind is;
+    clear = λ _. (none, rest.header);
+    holds = λ some. absurd (omega (arith, some, zero));
+    logs = λ log is. absurd (none_some (sym no_log ∙ is));
   };
 }
-
--- what is seen of an armed commit settles to its pages over the device's
-pub armed_settles : (capacity end start : ℕ) (waiting : Pages) (candidate : Candidates)
-    (seen : Image) → IsArmed capacity end start waiting candidate seen
-    → settled capacity seen ≡ file_of (file_pages (overlaid waiting (page_at seen)) end)
-unfolding settled
-armed_settles capacity end start waiting candidate seen armed =
-    ap (λ (h : Header). settled_by h seen) armed.header
-    ∙ ap (λ (ps : Pages). settled_over ps seen end) armed.images
-    ∙ ap (λ (b : Bool). if b then file_of (file_pages (overlaid waiting (page_at seen)) end)
-    else nothing) armed.in_order
 
 -- a pager whose pages wait
-pub waits_at : (writable : Bool) (capacity end start : ℕ) (waiting : Pages)
-    (candidate : Candidates) (seen : Image) → 0 < length waiting
-    → IsArmed capacity end start waiting candidate seen
-    → SettlesToPages writable capacity end start waiting candidate seen
-waits_at writable capacity end start waiting candidate seen some armed = record {
-  settles = armed_settles capacity end start waiting candidate seen armed;
+pub waits_at : (writable : Bool) (capacity end : ℕ) (area : RedoArea) (waiting : Pages)
+    (candidate : Candidates) (seen : Image) → 0 < area.held
+    → HoldsWaiting capacity end area.start area.held waiting candidate seen
+    → kind_of (seen 0) ≡ area.kind
+    → ((log : LogPlace) → area.log ≡ Some log
+    → IsInLog capacity end area.start waiting candidate seen log)
+    → SettlesToPages writable capacity end area waiting candidate seen
+waits_at writable capacity end area waiting candidate seen some holds kind logs = record {
+  settles = holds.settles seen (λ m out is. refl);
   waits = λ is. record {
-    stable = armed.stable;
+    stable = holds.stable;
+    kind = kind;
     clear = λ none. absurd (omega (arith, some, none));
-    armed = λ more. armed;
+    holds = λ more. holds;
+    logs = logs;
   };
 }
+
+-- what is known of one that may write is known of one that only reads
+pub for_all_access : {capacity end : ℕ} {area : RedoArea} {waiting : Pages}
+    {candidate : Candidates} {seen : Image} (writable : Bool)
+    → SettlesToPages true capacity end area waiting candidate seen
+    → SettlesToPages writable capacity end area waiting candidate seen
+for_all_access writable is = record { settles = is.settles; waits = λ _. is.waits refl }
 
 -- where all is stable, there is one outcome
 pub only_seen : (capacity : ℕ) (candidate : Candidates) (seen : Image) (outcome now : Settled)

@@ -4,35 +4,37 @@ ghost use Rattle.sect_dev.specs.Device.{LeavesOnly};
 ghost use Rattle.page_io.specs.Calls.{IsDeviceCall};
 ghost use Rattle.page_io.specs.Page.{page_at, own_number};
 ghost use Rattle.page_io.specs.Store.{bytes_of, file_pages, overlaid, has_page, committed_with, IsEither};
+ghost use Rattle.redo_area.specs.Header.{kind_of};
 ghost use Rattle.redo_area.specs.File.{settled, IsArmed};
 ghost use Rattle.redo_area.specs.Arming.{IsCommit, IsWaiting, IsBeside};
 
+use crate::area::RedoArea;
 use crate::settling::bring_home;
 use crate::steps::{arm, arm_grown, arm_next};
 use page_io::Page;
 use sect_dev::{DevFault, SectorDev};
 
-/// The first page from `least` on where `count` redo images fit beside those of pages that wait,
-/// which are `waiting` from page `start` on. There is none where no page waits.
-fn place_beside(least: u32, count: usize, start: u32, waiting: usize, capacity: u32) -> Option<u32>
+/// The first page from `least` on where `count` pages fit beside those that hold what waits. There
+/// is none where no page waits.
+pub fn place_beside(least: u32, count: usize, area: RedoArea, capacity: u32) -> Option<u32>
     requires some { 0 < count }
-    requires within { start ≤ capacity }
-    ensures some { IfSome result (λ place. IsBeside least count start waiting capacity place) }
+    requires within { area.start ≤ capacity }
+    ensures some { IfSome result (IsBeside least count area.start area.held capacity) }
     ensures first { IfSome result (λ place. (other : ℕ)
-        → IsBeside least count start waiting capacity other → place ≤ other) }
+        → IsBeside least count area.start area.held capacity other → place ≤ other) }
     ensures none { IfNone result ((other : ℕ)
-        → IsBeside least count start waiting capacity other → ⊥) }
+        → IsBeside least count area.start area.held capacity other → ⊥) }
 {
-    if waiting == 0 {
+    if area.held == 0 {
         return None;
     }
-    if count <= start.saturating_sub(least) as usize {
+    if count <= area.start.saturating_sub(least) as usize {
         return Some(least);
     }
-    if waiting > (capacity - start) as usize {
+    if area.held > (capacity - area.start) as usize {
         return None;
     }
-    let place = least.max(start + waiting as u32);
+    let place = least.max(area.start + area.held as u32);
     if count > capacity.saturating_sub(place) as usize {
         return None;
     }
@@ -94,17 +96,17 @@ pub struct Armed {
 /// Arms the commit sector over redo images of these pages. Pages of the last commit that still wait
 /// are brought home: while the images are written, where there is room for them beside those of the
 /// last commit; else before. Where there are 16 new pages or more, and others, the new ones come to
-/// their own numbers at once, and have no redo image. Where pages wait, this takes 512 new ones, since
-/// those are brought home before.
+/// their own numbers at once, and have no redo image. Where pages wait, this takes 512 new ones,
+/// since those are brought home before.
 pub fn arm_over<D: SectorDev>(
     dev: &mut D,
-    start: u32,
+    area: RedoArea,
     old_end: u32,
     waiting: &[Page],
     new_end: u32,
     pages: &[Page],
 ) -> Result<Armed, DevFault>
-    requires waiting { IsWaiting D.SectorDev dev.old old_end start (bytes_of waiting.now) }
+    requires waiting { IsWaiting D.SectorDev dev.old old_end area (bytes_of waiting.now) }
     requires pages { IsCommit new_end pages.now }
     requires room { max old_end new_end + length pages.now ≤ D.sectors dev.old / 4 }
     requires grown { (n : ℕ) → old_end ≤ n → n < new_end → has_page (bytes_of pages.now) n ≡ true }
@@ -131,19 +133,21 @@ pub fn arm_over<D: SectorDev>(
         (new_end ≤ armed.place) × (armed.place ≤ D.sectors dev.old / 4)) }
     ensures images { IfOk result (λ armed.
         (0 < armed.images) × (armed.images ≤ length pages.now)) }
+    ensures kind { D.honest dev.old
+        → OnOk result (kind_of (D.seen dev.new 0) ≡ area.kind) }
     ensures device { IsDeviceCall D.SectorDev dev.old dev.new result }
 {
     let changed = changed_in(pages, old_end);
     if changed > 0 && pages.len() - changed >= least_new(waiting) {
         let (changed_pages, new) = pages.split_at(changed);
-        bring_home(dev, start, old_end, waiting)?;
-        arm_grown(dev, old_end, new_end, changed_pages, new)?;
+        bring_home(dev, area, old_end, waiting)?;
+        arm_grown(dev, area.kind, old_end, new_end, changed_pages, new)?;
         return Ok(Armed {
             place: new_end,
             images: changed,
         });
     }
-    let place = arm_all(dev, start, old_end, waiting, new_end, pages)?;
+    let place = arm_all(dev, area, old_end, waiting, new_end, pages)?;
     Ok(Armed {
         place,
         images: pages.len(),
@@ -153,13 +157,13 @@ pub fn arm_over<D: SectorDev>(
 // The same with a redo image of each page. It answers where the first one stands.
 fn arm_all<D: SectorDev>(
     dev: &mut D,
-    start: u32,
+    area: RedoArea,
     old_end: u32,
     waiting: &[Page],
     new_end: u32,
     pages: &[Page],
 ) -> Result<u32, DevFault>
-    requires waiting { IsWaiting D.SectorDev dev.old old_end start (bytes_of waiting.now) }
+    requires waiting { IsWaiting D.SectorDev dev.old old_end area (bytes_of waiting.now) }
     requires pages { IsCommit new_end pages.now }
     requires room { max old_end new_end + length pages.now ≤ D.sectors dev.old / 4 }
     requires grown { (n : ℕ) → old_end ≤ n → n < new_end → has_page (bytes_of pages.now) n ≡ true }
@@ -178,15 +182,17 @@ fn arm_all<D: SectorDev>(
         (file_pages (overlaid (bytes_of waiting.now) (page_at (D.seen dev.old))) old_end)
         (bytes_of pages.now) new_end) }
     ensures place { IfOk result (λ place. (new_end ≤ place) × (place ≤ D.sectors dev.old / 4)) }
+    ensures kind { D.honest dev.old
+        → OnOk result (kind_of (D.seen dev.new 0) ≡ area.kind) }
     ensures device { IsDeviceCall D.SectorDev dev.old dev.new result }
 {
     let least = old_end.max(new_end);
     let capacity = dev.capacity() / 4;
-    if let Some(place) = place_beside(least, pages.len(), start, waiting.len(), capacity) {
-        arm_next(dev, start, old_end, waiting, place, new_end, pages)?;
+    if let Some(place) = place_beside(least, pages.len(), area, capacity) {
+        arm_next(dev, area, old_end, waiting, place, new_end, pages)?;
         return Ok(place);
     }
-    bring_home(dev, start, old_end, waiting)?;
-    arm(dev, least, old_end, new_end, pages)?;
+    bring_home(dev, area, old_end, waiting)?;
+    arm(dev, area.kind, least, old_end, new_end, pages)?;
     Ok(least)
 }

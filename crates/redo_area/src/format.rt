@@ -5,15 +5,20 @@ ghost use Rattle.page_io.specs.Calls.{IsDeviceCall};
 ghost use Rattle.sect_dev.specs.Sector.{zeros};
 ghost use Rattle.page_io.specs.Page.{page_at};
 ghost use Rattle.page_io.specs.Store.{file_pages, bytes_of};
+ghost use Rattle.redo_area.specs.Header.{kind_of};
 ghost use Rattle.redo_area.specs.File.{settled, IsAtRest, IsBlankOr};
 
-use crate::header::clear_sector;
+use crate::header::{CommitKind, clear_sector};
 use crate::steps::{put_header, put_images};
 use page_io::Page;
 use sect_dev::{DevFault, SectorDev};
 
 /// Makes a new file of these pages, from page 1 on, on a blank device.
-pub fn format_pages<D: SectorDev>(dev: &mut D, pages: &[Page]) -> Result<(), DevFault>
+pub fn format_pages<D: SectorDev>(
+    dev: &mut D,
+    kind: CommitKind,
+    pages: &[Page],
+) -> Result<(), DevFault>
     requires least { 3 ≤ length pages.now }
     requires room { 1 + length pages.now ≤ D.sectors dev.old / 4 }
 
@@ -28,10 +33,12 @@ pub fn format_pages<D: SectorDev>(dev: &mut D, pages: &[Page]) -> Result<(), Dev
     ensures pages { D.honest dev.old
         → OnOk result (file_pages (page_at (D.seen dev.new)) (1 + length pages.now)
         ≡ bytes_of pages.now) }
+    ensures kind { D.honest dev.old
+        → OnOk result (kind_of (D.seen dev.new 0) ≡ kind) }
     ensures device { IsDeviceCall D.SectorDev dev.old dev.new result }
 {
     let end = 1 + pages.len() as u32;
     put_images(dev, 1, pages)?;
-    put_header(dev, &clear_sector(end))?;
+    put_header(dev, &clear_sector(kind, end))?;
     Ok(())
 }

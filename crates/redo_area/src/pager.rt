@@ -4,12 +4,14 @@ ghost use Rattle.sect_dev.specs.Moments.{IsOutcome};
 ghost use Rattle.page_io.specs.Page.{page_at};
 ghost use Rattle.page_io.specs.Store.{bytes_of, file_pages, overlaid, are_in_order};
 ghost use Rattle.redo_area.specs.File.{settled};
+ghost use Rattle.redo_area.specs.Arming.{IsPlaced};
 ghost use Rattle.redo_area.specs.Settling.{SettlesIfUsable, SettlesTo};
 
 mod opening;
 mod serving;
 
-use crate::arming::arm_over;
+use crate::area::RedoArea;
+use crate::committing::commit_over;
 use crate::settling::bring_home;
 use page_io::{
     Page, PageFault, PageStore, StagedPages, Version, find_staged, hand_over, is_among,
@@ -28,18 +30,17 @@ pub struct Pager<D: SectorDev> {
     // Committed pages that stand over the device's: those of the last commit that aren't at home
     // yet, or the redo images of an armed file that was opened for reading alone.
     waiting: StagedPages,
-    // The page of the first redo image, where pages of a commit wait.
-    start: u32,
+    // Where those of a commit stand that wait.
+    area: RedoArea,
     end: u32,
     usable: bool,
     writable: bool,
     ghost least: { 4 ≤ end },
     ghost fits: { end ≤ D.sectors dev / 4 },
     ghost order: { are_in_order 1 (2 ^ 32) (bytes_of staged.items) ≡ true },
-    ghost behind: { end ≤ start },
-    ghost within: { start ≤ D.sectors dev / 4 },
+    ghost placed: { IsPlaced (D.sectors dev / 4) end area },
     ghost rising: { are_in_order 1 end (bytes_of waiting.items) ≡ true },
-    ghost settles: { SettlesIfUsable (D.honest dev) usable writable (D.sectors dev / 4) end start
+    ghost settles: { SettlesIfUsable (D.honest dev) usable writable (D.sectors dev / 4) end area
         (bytes_of waiting.items) (D.candidate dev) (D.seen dev) },
 }
 
@@ -54,7 +55,7 @@ impl<D: SectorDev> PageStore for Pager<D> {
     ghost use Rattle.page_io.specs.Store.{IsEither, page_of, has_page, committed_with, AllBelow};
     ghost use Rattle.page_io.specs.Versions.{model_version};
     ghost use Rattle.page_io.specs.declared.store.PageFault.TheVariants.{Device};
-    ghost use Rattle.redo_area.specs.Pagers.{device_of};
+    ghost use Rattle.redo_area.specs.Pagers.{device_of, kind_at};
     ghost use Rattle.sect_dev.specs.Reads.{OnlyReads};
     ghost use Rattle.redo_area.specs.Settling.{only_seen, quarter_fits};
     ghost use Rattle.redo_area.specs.File.{IsAtRest};
@@ -223,6 +224,7 @@ impl<D: SectorDev> PageStore for Pager<D> {
         // The device is as it was.
         ensures untouched { IfErr result
             (λ e. IsRefusal e → device_of self.new ≡ device_of self.old) }
+        ensures kind { kind_at self.new ≡ kind_at self.old }
     {
         if !self.usable {
             return Err(PageFault::Broken);
@@ -237,14 +239,14 @@ impl<D: SectorDev> PageStore for Pager<D> {
         self.usable = false;
         let waiting = self.waiting.as_slice();
         let pages = self.staged.as_slice();
-        let armed = arm_over(&mut self.dev, self.start, self.end, waiting, new_end, pages);
-        let Ok(armed) = armed else {
+        let done = commit_over(&mut self.dev, self.area, self.end, waiting, new_end, pages);
+        let Ok(done) = done else {
             return Err(PageFault::Device);
         };
         self.waiting.clear();
-        self.staged.truncate(armed.images);
+        self.staged.truncate(done.waiting);
         hand_over(&mut self.staged, &mut self.waiting);
-        self.start = armed.place;
+        self.area = done.area;
         self.end = new_end;
         self.usable = true;
         Ok(())
@@ -258,10 +260,12 @@ impl<D: SectorDev> PageStore for Pager<D> {
             return Ok(());
         }
         self.usable = false;
-        if bring_home(&mut self.dev, self.start, self.end, self.waiting.as_slice()).is_err() {
+        let pages = self.waiting.as_slice();
+        if bring_home(&mut self.dev, self.area, self.end, pages).is_err() {
             return Err(PageFault::Device);
         }
         self.waiting.clear();
+        self.area = RedoArea::empty(self.area.kind, self.end);
         self.usable = true;
         Ok(())
     }

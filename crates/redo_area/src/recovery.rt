@@ -1,17 +1,18 @@
 // The end of a commit that a stop cut short.
-ghost use Rattle.std.specs.Prelude.{◌≡◌, ◌≢◌, ◌≤◌, ◌<◌, ◌+◌, ◌*◌, ◌/◌, ◌↔◌, ℕ, List, true, false, IfOk, IfErr, OnOk, IsErrOf};
+ghost use Rattle.std.specs.Prelude.{◌≡◌, ◌≢◌, ◌≤◌, ◌<◌, ◌+◌, ◌*◌, ◌/◌, ◌↔◌, ℕ, List, true, false, IfOk, IfErr, OnOk, IsErrOf, IfSome, IfNone};
 ghost use Rattle.sect_dev.specs.Device.{IsImageOf, IsStable, NoNewCandidate, MoreFaults, LeavesOnly};
 ghost use Rattle.page_io.specs.Calls.{IsDeviceCall};
 ghost use Rattle.page_io.specs.Page.{page_at, KeepsWhere};
 ghost use Rattle.page_io.specs.Store.{file_of, nothing, file_pages, overlaid, are_in_order};
-ghost use Rattle.redo_area.specs.Header.{header_of};
-ghost use Rattle.redo_area.specs.declared.header.Header.TheVariants.{Armed};
+ghost use Rattle.redo_area.specs.Header.{header_of, kind_of};
+ghost use Rattle.redo_area.specs.declared.header.Header.TheVariants.{Armed, Logging};
 ghost use Rattle.redo_area.specs.File.{settled, redo_images, SettlesAsBefore, IsOutsideAll, IsAtRest, IsArmed};
 ghost use Rattle.redo_area.specs.Opening.{IsRefused};
 
 use crate::OpenFault;
-use crate::header::{Header, clear_sector, read_header};
+use crate::header::{CommitKind, Header, clear_sector, kind_of, read_header};
 use crate::steps::put_header;
+use commit_log::recover_log;
 use page_io::{Page, read_page, write_page};
 use sect_dev::{DevFault, SectorDev};
 
@@ -58,7 +59,13 @@ fn copy_images<D: SectorDev>(
 
 /// Copies the redo images home, and clears the commit sector. It answers false as `copy_images`
 /// does.
-fn replay<D: SectorDev>(dev: &mut D, start: u32, count: u32, end: u32) -> Result<bool, DevFault>
+fn replay<D: SectorDev>(
+    dev: &mut D,
+    kind: CommitKind,
+    start: u32,
+    count: u32,
+    end: u32,
+) -> Result<bool, DevFault>
     requires armed { D.honest dev.old
         → IsArmed (D.sectors dev.old / 4) end start (redo_images (D.seen dev.old) start count)
         (D.candidate dev.old) (D.seen dev.old) }
@@ -79,6 +86,8 @@ fn replay<D: SectorDev>(dev: &mut D, start: u32, count: u32, end: u32) -> Result
         → IfOk result (λ good. file_pages (page_at (D.seen dev.new)) end
         ≡ file_pages (overlaid (redo_images (D.seen dev.old) start count)
         (page_at (D.seen dev.old))) end) }
+    ensures kind { D.honest dev.old
+        → IfOk result (λ good. kind_of (D.seen dev.new 0) ≡ kind) }
     ensures device { IsDeviceCall D.SectorDev dev.old dev.new result }
 {
     let good = copy_images(dev, start, count, end)?;
@@ -86,7 +95,7 @@ fn replay<D: SectorDev>(dev: &mut D, start: u32, count: u32, end: u32) -> Result
         return Ok(false);
     }
     dev.sync()?;
-    put_header(dev, &clear_sector(end))?;
+    put_header(dev, &clear_sector(kind, end))?;
     Ok(true)
 }
 
@@ -139,7 +148,13 @@ fn sync_and_read<D: SectorDev>(dev: &mut D) -> Result<[u8; 512], DevFault>
 }
 
 /// Ends a commit whose commit sector is armed. It answers false where the redo images are damaged.
-fn end_armed<D: SectorDev>(dev: &mut D, end: u32, start: u32, count: u32) -> Result<bool, DevFault>
+fn end_armed<D: SectorDev>(
+    dev: &mut D,
+    kind: CommitKind,
+    end: u32,
+    start: u32,
+    count: u32,
+) -> Result<bool, DevFault>
     requires stable { D.honest dev.old → IsStable (D.candidate dev.old) (D.seen dev.old) }
     requires header { D.honest dev.old
         → header_of (D.sectors dev.old / 4) (D.seen dev.old 0) ≡ Armed end start count }
@@ -160,18 +175,67 @@ fn end_armed<D: SectorDev>(dev: &mut D, end: u32, start: u32, count: u32) -> Res
         → IfOk result (λ good. good ≡ false → IsStable (D.candidate dev.new) (D.seen dev.new)
         × (D.seen dev.new ≡ D.seen dev.old)
         × (settled (D.sectors dev.old / 4) (D.seen dev.old) ≡ nothing)) }
+    ensures kind { D.honest dev.old
+        → IfOk result (λ good. good ≡ true → kind_of (D.seen dev.new 0) ≡ kind) }
     ensures device { IsDeviceCall D.SectorDev dev.old dev.new result }
 {
     let sound = check_images(dev, start, count, end)?;
     if !sound {
         return Ok(false);
     }
-    let good = replay(dev, start, count, end)?;
+    let good = replay(dev, kind, start, count, end)?;
     Ok(good)
 }
 
-/// Settles what a stop may have left, and answers the end.
-pub fn recover<D: SectorDev>(dev: &mut D) -> Result<u32, OpenFault>
+/// Ends the commits of a log that the commit sector names. It answers none where neither slot says
+/// a commit.
+fn end_logging<D: SectorDev>(
+    dev: &mut D,
+    kind: CommitKind,
+    start: u32,
+) -> Result<Option<u32>, DevFault>
+    requires stable { D.honest dev.old → IsStable (D.candidate dev.old) (D.seen dev.old) }
+    requires header { D.honest dev.old
+        → header_of (D.sectors dev.old / 4) (D.seen dev.old 0) ≡ Logging start }
+    requires room { start + 32 ≤ D.sectors dev.old / 4 }
+
+    // Every image of every moment settles as the device does at the start.
+    ensures any_moment { D.honest dev.old → LeavesOnly D.moment D.left_since dev.old dev.new
+        (λ image. settled (D.sectors dev.old / 4) image
+        ≡ settled (D.sectors dev.old / 4) (D.seen dev.old)) }
+    ensures rest { D.honest dev.old
+        → IfOk result (λ answer. IfSome answer (λ end.
+        IsAtRest (D.sectors dev.old / 4) end (D.candidate dev.new) (D.seen dev.new))) }
+    ensures end { IfOk result (λ answer. IfSome answer (λ end.
+        (4 ≤ end) × (end ≤ D.sectors dev.old / 4))) }
+
+    // Where it answers none nothing was changed, and the device settles to nothing.
+    ensures refused { D.honest dev.old
+        → IfOk result (λ answer. IfNone answer (IsStable (D.candidate dev.new) (D.seen dev.new)
+        × (D.seen dev.new ≡ D.seen dev.old)
+        × (settled (D.sectors dev.old / 4) (D.seen dev.old) ≡ nothing))) }
+    ensures kind { D.honest dev.old
+        → IfOk result (λ answer. IfSome answer (λ end. kind_of (D.seen dev.new 0) ≡ kind)) }
+    ensures device { IsDeviceCall D.SectorDev dev.old dev.new result }
+{
+    match recover_log(dev, start)? {
+        Some(end) => {
+            put_header(dev, &clear_sector(kind, end))?;
+            Ok(Some(end))
+        }
+        None => Ok(None),
+    }
+}
+
+/// A file at rest: its end, and how its commits are made.
+#[derive(Clone, Copy)]
+pub struct AtRest {
+    pub end: u32,
+    pub kind: CommitKind,
+}
+
+/// Settles what a stop may have left.
+pub fn recover<D: SectorDev>(dev: &mut D) -> Result<AtRest, OpenFault>
     requires { 16 ≤ D.sectors dev.old }
 
     // Every image of every moment settles as one does that the device had at the start.
@@ -179,9 +243,11 @@ pub fn recover<D: SectorDev>(dev: &mut D) -> Result<u32, OpenFault>
         → LeavesOnly D.moment D.left_since dev.old dev.new
         (SettlesAsBefore (D.sectors dev.old / 4) (D.candidate dev.old)) }
     ensures rest { D.honest dev.old
-        → IfOk result (λ end. IsAtRest (D.sectors dev.old / 4) end (D.candidate dev.new)
+        → IfOk result (λ rest. IsAtRest (D.sectors dev.old / 4) rest.end (D.candidate dev.new)
         (D.seen dev.new)) }
-    ensures end { IfOk result (λ end. (4 ≤ end) × (end ≤ D.sectors dev.old / 4)) }
+    ensures kind { D.honest dev.old
+        → IfOk result (λ rest. kind_of (D.seen dev.new 0) ≡ rest.kind) }
+    ensures end { IfOk result (λ rest. (4 ≤ rest.end) × (rest.end ≤ D.sectors dev.old / 4)) }
     ensures refused { D.honest dev.old
         → IfErr result (λ e. e ≢ OpenFault.Device
         → IsRefused (D.sectors dev.old / 4) (D.candidate dev.old) (D.candidate dev.new)
@@ -198,12 +264,18 @@ pub fn recover<D: SectorDev>(dev: &mut D) -> Result<u32, OpenFault>
         Ok(content) => content,
         Err(_) => return Err(OpenFault::Device),
     };
+    let kind = kind_of(&content);
     match read_header(capacity, &content) {
         Header::Blank => Err(OpenFault::Blank),
-        Header::Clear { end } => Ok(end),
-        Header::Armed { end, start, count } => match end_armed(dev, end, start, count) {
-            Ok(true) => Ok(end),
+        Header::Clear { end } => Ok(AtRest { end, kind }),
+        Header::Armed { end, start, count } => match end_armed(dev, kind, end, start, count) {
+            Ok(true) => Ok(AtRest { end, kind }),
             Ok(false) => Err(OpenFault::Damaged),
+            Err(_) => Err(OpenFault::Device),
+        },
+        Header::Logging { start } => match end_logging(dev, kind, start) {
+            Ok(Some(end)) => Ok(AtRest { end, kind }),
+            Ok(None) => Err(OpenFault::Damaged),
             Err(_) => Err(OpenFault::Device),
         },
         Header::NotOurs => Err(OpenFault::NotOurs),

@@ -4,10 +4,12 @@ ghost use Rattle.sect_dev.specs.Device.{IsImageOf, IsStable, with_sector, with_c
 ghost use Rattle.page_io.specs.Calls.{IsDeviceCall};
 ghost use Rattle.page_io.specs.Page.{page_at, own_number, IsOutside, KeepsWhere};
 ghost use Rattle.page_io.specs.Store.{file_of, pages_from, file_pages, overlaid, are_in_order, bytes_of, IsEither};
-ghost use Rattle.redo_area.specs.File.{settled, IsOutsideAll, IsAtRest, IsArmed};
+ghost use Rattle.redo_area.specs.Header.{kind_of};
+ghost use Rattle.redo_area.specs.File.{settled, IsOutsideAll, IsAtRest, IsArmed, HoldsWaiting};
 ghost use Rattle.redo_area.specs.Arming.{IsCommit, HasRoomAt};
 
-use crate::header::{armed_sector, clear_sector};
+use crate::area::RedoArea;
+use crate::header::{CommitKind, armed_sector, clear_sector};
 use page_io::{Page, write_page};
 use sect_dev::{DevFault, SectorDev};
 
@@ -119,6 +121,7 @@ fn put_homes<D: SectorDev>(dev: &mut D, pages: &[Page]) -> Result<(), DevFault>
 /// them. From here on a stop leaves the new pages.
 pub fn arm<D: SectorDev>(
     dev: &mut D,
+    kind: CommitKind,
     start: u32,
     old_end: u32,
     new_end: u32,
@@ -141,27 +144,28 @@ pub fn arm<D: SectorDev>(
         (D.candidate dev.new) (D.seen dev.new)) }
     ensures pages { D.honest dev.old
         → OnOk result ((m : ℕ) → 0 < m → m < 4 * start → D.seen dev.new m ≡ D.seen dev.old m) }
+    ensures kind { D.honest dev.old
+        → OnOk result (kind_of (D.seen dev.new 0) ≡ kind) }
     ensures device { IsDeviceCall D.SectorDev dev.old dev.new result }
 {
     let count = pages.len() as u32;
     put_images(dev, start, pages)?;
-    put_header(dev, &armed_sector(new_end, start, count))?;
+    put_header(dev, &armed_sector(kind, new_end, start, count))?;
     Ok(())
 }
 
 /// Steps 3 and 4: the pages are on the disk at their own numbers, and the commit sector is clear.
 pub fn disarm<D: SectorDev>(
     dev: &mut D,
-    start: u32,
+    area: RedoArea,
     end: u32,
     pages: &[Page],
 ) -> Result<(), DevFault>
-    requires armed { D.honest dev.old
-        → IsArmed (D.sectors dev.old / 4) end start (bytes_of pages.now) (D.candidate dev.old)
-        (D.seen dev.old) }
+    requires held { D.honest dev.old
+        → HoldsWaiting (D.sectors dev.old / 4) end area.start area.held (bytes_of pages.now)
+        (D.candidate dev.old) (D.seen dev.old) }
     requires least { 4 ≤ end }
-    requires start { end ≤ start }
-    requires room { start ≤ D.sectors dev.old / 4 }
+    requires room { end ≤ D.sectors dev.old / 4 }
     requires in_order { are_in_order 1 end (bytes_of pages.now) ≡ true }
 
     // Every image of every moment since the start settles to the same pages.
@@ -175,10 +179,12 @@ pub fn disarm<D: SectorDev>(
     ensures pages { D.honest dev.old
         → OnOk result (file_pages (page_at (D.seen dev.new)) end
         ≡ file_pages (overlaid (bytes_of pages.now) (page_at (D.seen dev.old))) end) }
+    ensures kind { D.honest dev.old
+        → OnOk result (kind_of (D.seen dev.new 0) ≡ area.kind) }
     ensures device { IsDeviceCall D.SectorDev dev.old dev.new result }
 {
     put_homes(dev, pages)?;
-    put_header(dev, &clear_sector(end))?;
+    put_header(dev, &clear_sector(area.kind, end))?;
     Ok(())
 }
 
@@ -187,20 +193,19 @@ pub fn disarm<D: SectorDev>(
 /// sector is armed over the new images.
 pub fn arm_next<D: SectorDev>(
     dev: &mut D,
-    start: u32,
+    area: RedoArea,
     old_end: u32,
     waiting: &[Page],
     place: u32,
     new_end: u32,
     pages: &[Page],
 ) -> Result<(), DevFault>
-    requires armed { D.honest dev.old
-        → IsArmed (D.sectors dev.old / 4) old_end start (bytes_of waiting.now)
+    requires held { D.honest dev.old
+        → HoldsWaiting (D.sectors dev.old / 4) old_end area.start area.held (bytes_of waiting.now)
         (D.candidate dev.old) (D.seen dev.old) }
     requires rising { are_in_order 1 old_end (bytes_of waiting.now) ≡ true }
-    requires behind { old_end ≤ start }
     requires pages { IsCommit new_end pages.now }
-    requires place { HasRoomAt (max old_end new_end) (length pages.now) start (length waiting.now)
+    requires place { HasRoomAt (max old_end new_end) (length pages.now) area.start area.held
         (D.sectors dev.old / 4) place }
 
     // Every image of every moment since the start settles to the old pages, those that waited among
@@ -217,12 +222,14 @@ pub fn arm_next<D: SectorDev>(
     ensures pages { D.honest dev.old
         → OnOk result ((n : ℕ) → 0 < n → n < place → page_at (D.seen dev.new) n
         ≡ overlaid (bytes_of waiting.now) (page_at (D.seen dev.old)) n) }
+    ensures kind { D.honest dev.old
+        → OnOk result (kind_of (D.seen dev.new 0) ≡ area.kind) }
     ensures device { IsDeviceCall D.SectorDev dev.old dev.new result }
 {
     let count = pages.len() as u32;
     write_images(dev, place, pages)?;
     put_homes(dev, waiting)?;
-    put_header(dev, &armed_sector(new_end, place, count))?;
+    put_header(dev, &armed_sector(area.kind, new_end, place, count))?;
     Ok(())
 }
 
@@ -231,6 +238,7 @@ pub fn arm_next<D: SectorDev>(
 /// as redo images from the new end on, and the commit sector is armed over these.
 pub fn arm_grown<D: SectorDev>(
     dev: &mut D,
+    kind: CommitKind,
     old_end: u32,
     new_end: u32,
     changed: &[Page],
@@ -255,11 +263,13 @@ pub fn arm_grown<D: SectorDev>(
     ensures pages { D.honest dev.old
         → OnOk result ((n : ℕ) → 0 < n → n < new_end → page_at (D.seen dev.new) n
         ≡ overlaid (bytes_of new.now) (page_at (D.seen dev.old)) n) }
+    ensures kind { D.honest dev.old
+        → OnOk result (kind_of (D.seen dev.new 0) ≡ kind) }
     ensures device { IsDeviceCall D.SectorDev dev.old dev.new result }
 {
     let count = changed.len() as u32;
     write_homes(dev, new)?;
     put_images(dev, new_end, changed)?;
-    put_header(dev, &armed_sector(new_end, new_end, count))?;
+    put_header(dev, &armed_sector(kind, new_end, new_end, count))?;
     Ok(())
 }

@@ -58,6 +58,7 @@ for_writing how = record {
   truncate = how.truncate;
   limit = how.limit;
   version = how.version;
+  commits = how.commits;
   kept_pages = None;
 }
 

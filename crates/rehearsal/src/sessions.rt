@@ -16,7 +16,7 @@ ghost use Rattle.rehearsal.specs.Members.{AllStandFor};
 ghost use Rattle.rehearsal.specs.Positions.{GoesInSteps, IfMade, MadeInSteps};
 ghost use Rattle.rehearsal.specs.Sessions.{opening_of, plan_of, for_writing, ending_of, disk_of, IsOneEach, IfNotOpened, IfRested, IfUnsettled, IfGrouped, IsSettled, WhyNotOpened, Leaves, IsLeftByStop, CallsLeave, IsLeftByCalls};
 
-use dbm_file::{Access, Call, Db, Fault, OpenHow, Pair, Reply, Version, run};
+use dbm_file::{Access, Call, CommitKind, Db, Fault, OpenHow, Pair, Reply, Version, run};
 use page_cache::CachedPages;
 use page_io::PageStore;
 use redo_area::Pager;
@@ -35,6 +35,8 @@ pub struct Opening {
     pub limit: u32,
     /// The version of a database that is made or emptied.
     pub version: Version,
+    /// How the commits of a database that is made are made.
+    pub commits: CommitKind,
 }
 
 impl Opening {
@@ -49,6 +51,7 @@ impl Opening {
             truncate: self.truncate,
             limit: self.limit,
             version: self.version,
+            commits: self.commits,
             kept_pages: None,
         }
     }

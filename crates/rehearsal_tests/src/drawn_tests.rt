@@ -2,7 +2,7 @@
 //! tests' own.
 
 use crate::tables::{Table, acknowledged, held_by, may_be_left, states_of};
-use dbm_file::{Call, Octets, Pair, StoreMode, Version};
+use dbm_file::{Call, CommitKind, Octets, Pair, StoreMode, Version};
 use rand_xoshiro::SplitMix64;
 use rand_xoshiro::rand_core::{Rng, SeedableRng};
 use rehearsal::{Opening, Stage, rehearse};
@@ -120,6 +120,15 @@ fn drawn_opening(generator: &mut SplitMix64) -> Opening {
         truncate: draw(generator, 7) == 0,
         limit: if draw(generator, 2) == 0 { 3 } else { 20 },
         version: drawn_version(generator),
+        commits: drawn_kind(generator),
+    }
+}
+
+fn drawn_kind(generator: &mut SplitMix64) -> CommitKind {
+    if draw(generator, 2) == 0 {
+        CommitKind::Images
+    } else {
+        CommitKind::Log
     }
 }
 

@@ -1,6 +1,6 @@
 //! Two sessions on a device, the first of which is stopped.
 
-use dbm_file::{Pair, Reply, Version};
+use dbm_file::{CommitKind, Pair, Reply, Version};
 use rehearsal::{Ending, Opening, Stage, Stopped, rehearse};
 use sect_dev::MemDev;
 use std::alloc::Global;
@@ -60,6 +60,7 @@ fn stage_of(
             truncate: false,
             limit,
             version: Version::V1,
+            commits: CommitKind::Images,
         },
         calls: calls_of(alloc, text)?,
         group: Vec::new(alloc),

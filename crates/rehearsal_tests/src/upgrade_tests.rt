@@ -2,7 +2,7 @@
 //! calls.
 
 use crate::tables::{acknowledged, held_by, may_be_left, states_of};
-use dbm_file::Version;
+use dbm_file::{CommitKind, Version};
 use rehearsal::{Ending, Opening, Stage, rehearse};
 use sect_dev::MemDev;
 use std::alloc::Global;
@@ -47,6 +47,7 @@ fn stage_of(alloc: Global, device_calls: u64) -> Result<Stage, Fail> {
             truncate: false,
             limit: 2,
             version: Version::V1,
+            commits: CommitKind::Images,
         },
         calls: calls_of(alloc, CALLS)?,
         group: Vec::new(alloc),

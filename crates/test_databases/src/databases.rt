@@ -2,7 +2,8 @@
 
 use crate::calls::open;
 use dbm_file::{
-    Access, Database, Db, Fault, OpenHow, Stat, StoreMode, StoreReply, Version, needed_sectors,
+    Access, CommitKind, Database, Db, Fault, OpenHow, Stat, StoreMode, StoreReply, Version,
+    needed_sectors,
 };
 use page_io::PageStore;
 use sect_dev::{MemDev, SectorDev};
@@ -17,6 +18,7 @@ pub fn opening(create: bool, limit: u32) -> OpenHow {
         truncate: false,
         limit,
         version: Version::V1,
+        commits: CommitKind::Images,
         kept_pages: None,
     }
 }

@@ -4,14 +4,16 @@ ghost use Rattle.sect_dev.specs.Device.{Image, IsImageOf, LeavesOnly};
 ghost use Rattle.page_io.specs.Store.{bytes_of, blank, file_of};
 ghost use Rattle.redo_area.specs.File.{settled, SettlesAsBefore, IsBlankOr};
 ghost use Rattle.redo_area.specs.Settling.{SettlesTo};
-ghost use Rattle.redo_area.specs.Opening.{refusal_of, SaysArmed, IsFresh, IsRefused, HasOpenCause};
-ghost use Rattle.redo_area.specs.Pagers.{device_of, device_after};
+ghost use Rattle.redo_area.specs.Opening.{refusal_of, SaysUnsettled, IsFresh, IsRefused, HasOpenCause};
+ghost use Rattle.redo_area.specs.Header.{kind_of};
+ghost use Rattle.redo_area.specs.Pagers.{device_of, device_after, kind_at};
 ghost use Rattle.sect_dev.specs.Reads.{OnlyReads};
 
+use crate::area::RedoArea;
 use crate::format::format_pages;
 use crate::reading::read_file;
 use crate::recovery::recover;
-use crate::{OpenFault, Pager};
+use crate::{CommitKind, OpenFault, Pager};
 use page_io::{Page, PageStore, StagedPages};
 use sect_dev::SectorDev;
 use std::alloc::Global;
@@ -19,7 +21,12 @@ use std::alloc::Global;
 impl<D: SectorDev> Pager<D> {
     /// Makes a file of these pages, from page 1 on, and opens it for writing. The only fault is
     /// Device; what a failed call leaves of a blank device is blank or the whole file.
-    pub fn format(alloc: Global, dev: D, pages: &[Page]) -> Result<Pager<D>, (D, OpenFault)>
+    pub fn format(
+        alloc: Global,
+        dev: D,
+        kind: CommitKind,
+        pages: &[Page],
+    ) -> Result<Pager<D>, (D, OpenFault)>
         requires least { 3 ≤ length pages.now }
         requires room { length pages.now < D.sectors dev / 4 }
 
@@ -42,29 +49,30 @@ impl<D: SectorDev> Pager<D> {
         ensures committed { D.honest dev
             → IfOk result (λ pager. ⟦<Pager<D> as PageStore>⟧.committed pager
             ≡ bytes_of pages.now) }
+        ensures kind { IfOk result (λ pager. kind_at pager ≡ kind) }
         ensures honesty { D.honest (device_after result) ↔ D.honest dev }
         ensures cause { HasOpenCause true (D.faults dev) (D.faults (device_after result)) result }
         ensures only { IfErr result (λ e. e.1 ≡ OpenFault.Device) }
         ensures size { D.sectors (device_after result) ≡ D.sectors dev }
     {
         let mut dev = dev;
-        if format_pages(&mut dev, pages).is_err() {
+        if format_pages(&mut dev, kind, pages).is_err() {
             return Err((dev, OpenFault::Device));
         }
         Ok(Pager {
             dev,
             staged: StagedPages::new(alloc),
             waiting: StagedPages::new(alloc),
-            start: pages.len() as u32 + 1,
+            area: RedoArea::empty(kind, pages.len() as u32 + 1),
             end: pages.len() as u32 + 1,
             usable: true,
             writable: true,
         })
     }
 
-    /// Opens a device that a stop may have left. For writing, an armed commit is ended first, and
-    /// no memory is taken. For reading alone, nothing is written and nothing is synced: the redo
-    /// images of an armed commit are read into memory, and stand in the place of the pages that
+    /// Opens a device that a stop may have left. For writing, a commit that waits is ended first,
+    /// and no memory is taken. For reading alone, nothing is written and nothing is synced: its
+    /// pages are read into memory, from redo images or a log, and stand in the place of those that
     /// they name.
     pub fn open(alloc: Global, dev: D, writable: bool) -> Result<Pager<D>, (D, OpenFault)>
         requires { 16 ≤ D.sectors dev }
@@ -98,10 +106,13 @@ impl<D: SectorDev> Pager<D> {
             → IfErr result (λ e. e.1 ≢ OpenFault.Device → e.1 ≢ OpenFault.Memory
             → refusal_of (D.sectors dev / 4) (D.seen dev) ≡ Some e.1) }
 
-        // Memory is taken for redo images alone, and never for writing.
+        ensures kind { D.honest dev
+            → IfOk result (λ pager. kind_of (D.seen (device_of pager) 0) ≡ kind_at pager) }
+
+        // Memory is taken for redo images and logs alone, and never for writing.
         ensures memory { D.honest dev
             → IfErr result (λ e. e.1 ≡ OpenFault.Memory
-            → SaysArmed (D.sectors dev / 4) (D.seen dev)) }
+            → SaysUnsettled (D.sectors dev / 4) (D.seen dev)) }
         ensures honesty { D.honest (device_after result) ↔ D.honest dev }
         ensures cause { HasOpenCause writable (D.faults dev)
             (D.faults (device_after result)) result }
@@ -110,12 +121,12 @@ impl<D: SectorDev> Pager<D> {
         let mut dev = dev;
         if writable {
             return match recover(&mut dev) {
-                Ok(end) => Ok(Pager {
+                Ok(rest) => Ok(Pager {
                     dev,
                     staged: StagedPages::new(alloc),
                     waiting: StagedPages::new(alloc),
-                    start: end,
-                    end,
+                    area: RedoArea::empty(rest.kind, rest.end),
+                    end: rest.end,
                     usable: true,
                     writable: true,
                 }),
@@ -127,13 +138,20 @@ impl<D: SectorDev> Pager<D> {
                 dev,
                 staged: StagedPages::new(alloc),
                 waiting: file.redo,
-                start: file.end,
+                area: RedoArea::empty(file.kind, file.end),
                 end: file.end,
                 usable: true,
                 writable: false,
             }),
             Err(fault) => Err((dev, fault)),
         }
+    }
+
+    /// How the file's commits are made.
+    pub fn commit_kind(&self) -> CommitKind
+        ensures { result ≡ kind_at self.now }
+    {
+        self.area.kind
     }
 
     /// The device.

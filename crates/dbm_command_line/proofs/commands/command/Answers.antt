@@ -1,5 +1,5 @@
 use Rattle.std.proofs.Common.{Ok, codes}
-use Rattle.dbm_command_line.specs.CommandLine.{backup_line, command_line, create_line, faults_line, file_line, key_line, load_line, pair_line, pairs_line, program_line, rehearse_line, resize_line, script_line}
+use Rattle.dbm_command_line.specs.CommandLine.{backup_line, command_line, create_line, faults_line, file_line, key_line, load_line, pair_line, pairs_line, program_line, rehearse_line, resize_line, script_line, upgrade_line}
 use Rattle.dbm_command_line.proofs.Building.{seventeen_lines_added}
 use Rattle.dbm_command_line.proofs.commands.command.Goals as goal
 
@@ -9,7 +9,7 @@ returns c =
     seventeen_lines_added program_line create_line (pair_line (codes "store"))
     (pair_line (codes "insert")) (key_line (codes "fetch")) (key_line (codes "delete"))
     (pairs_line (codes "list")) (pairs_line (codes "dump")) load_line
-    (file_line (codes "stat")) (file_line (codes "verify")) (file_line (codes "upgrade"))
+    (file_line (codes "stat")) (file_line (codes "verify")) upgrade_line
     resize_line backup_line (file_line (codes "salvage"))
     script_line rehearse_line faults_line
     c.program.result c.with_subcommand-command.result c.with_subcommand-command-2.result c.with_subcommand-command-3.result

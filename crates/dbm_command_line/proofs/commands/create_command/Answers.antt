@@ -2,7 +2,7 @@ use Rattle.std.proofs.Common.{[], ◌∷◌, codes}
 use Rattle.std.proofs.lemmas.Result.{IfOk-from_err}
 use Rattle.clap.specs.Words.{Rule, with_rule}
 use Rattle.dbm_command_line.specs.Building.{IsApp, IsRule, alone}
-use Rattle.dbm_command_line.specs.CommandLine.{create_line, file_line, number_rule, version_rule}
+use Rattle.dbm_command_line.specs.CommandLine.{create_line, file_line, number_rule, syncs_rule, version_rule}
 use Rattle.dbm_command_line.proofs.Building.{option_added, with_default, with_option}
 use Rattle.dbm_command_line.proofs.commands.create_command.Goals as goal
 
@@ -14,6 +14,10 @@ returns-in_err-file_command c =
 pub returns-in_err-arg : goal.returns-in_err-arg
 returns-in_err-arg c = IfOk-from_err c.from_residual-in_err-arg.result
     (λ made. IsApp made (alone create_line)) c.from_residual-in_err-arg.ensures.0
+
+pub returns-in_err-arg-2 : goal.returns-in_err-arg-2
+returns-in_err-arg-2 c = IfOk-from_err c.from_residual-in_err-arg-2.result
+    (λ made. IsApp made (alone create_line)) c.from_residual-in_err-arg-2.ensures.0
 
 pub returns : goal.returns
 returns c =
@@ -30,6 +34,11 @@ returns c =
     with_option c.in_ok-file_command.field-0 c.in_ok-arg.field-0 c.default_value.result
     (alone (file_line (codes "create"))) with_value c.in_ok-file_command.ensures
     limit c.in_ok-arg.ensures in
-    option_added c.in_ok-arg.field-0 c.version.result c.arg-2.result
+    let with_version : IsApp c.in_ok-arg-2.field-0 (with_rule
+    (with_rule (alone (file_line (codes "create"))) with_value) version_rule) =
+    with_option c.in_ok-arg.field-0 c.in_ok-arg-2.field-0 c.version.result
     (with_rule (alone (file_line (codes "create"))) with_value) version_rule with_limit
-    c.version.ensures c.arg-2.ensures
+    c.version.ensures c.in_ok-arg-2.ensures in
+    option_added c.in_ok-arg-2.field-0 c.syncs.result c.arg-3.result
+    (with_rule (with_rule (alone (file_line (codes "create"))) with_value) version_rule) syncs_rule
+    with_version c.syncs.ensures c.arg-3.ensures

@@ -19,12 +19,19 @@ returns-in_err-version-in-create c =
     (Asks c.args.name.now (rows_of (found_of c.args.options.now)))
     c.from_residual-in_err-version-in-create.ensures
 
-pub returns-in_ok-version-in-create : goal.returns-in_ok-version-in-create
-returns-in_ok-version-in-create c = (
+pub returns-in_err-new_commits-in-create : goal.returns-in_err-new_commits-in-create
+returns-in_err-new_commits-in-create c =
+    if_none c.from_residual-in_err-new_commits-in-create.result
+    (Asks c.args.name.now (rows_of (found_of c.args.options.now)))
+    c.from_residual-in_err-new_commits-in-create.ensures
+
+pub returns-in_ok-new_commits-in-create : goal.returns-in_ok-new_commits-in-create
+returns-in_ok-new_commits-in-create c = (
   c.in-create.is,
   c.in_ok-file.ensures,
   c.in_ok-number-in-create.ensures,
   c.in_ok-version-in-create.ensures,
+  c.in_ok-new_commits-in-create.ensures,
 )
 
 pub returns-in_err-form-in-list : goal.returns-in_err-form-in-list
@@ -53,8 +60,15 @@ returns-in-stat c = (c.in-stat.is, c.in_ok-file.ensures)
 pub returns-in-verify : goal.returns-in-verify
 returns-in-verify c = (c.in-verify.is, c.in_ok-file.ensures)
 
-pub returns-in-upgrade : goal.returns-in-upgrade
-returns-in-upgrade c = (c.in-upgrade.is, c.in_ok-file.ensures)
+pub returns-in_err-upgrade-in-upgrade : goal.returns-in_err-upgrade-in-upgrade
+returns-in_err-upgrade-in-upgrade c =
+    if_none c.from_residual-in_err-upgrade-in-upgrade.result
+    (Asks c.args.name.now (rows_of (found_of c.args.options.now)))
+    c.from_residual-in_err-upgrade-in-upgrade.ensures
+
+pub returns-in_ok-upgrade-in-upgrade : goal.returns-in_ok-upgrade-in-upgrade
+returns-in_ok-upgrade-in-upgrade c =
+    (c.in-upgrade.is, c.in_ok-file.ensures, c.in_ok-upgrade-in-upgrade.ensures)
 
 pub returns-in_err-optional-in-resize : goal.returns-in_err-optional-in-resize
 returns-in_err-optional-in-resize c =

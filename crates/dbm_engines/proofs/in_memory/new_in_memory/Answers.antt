@@ -4,6 +4,7 @@ use Rattle.dbm_file.specs.Opened.{IsOpenedAt}
 use Rattle.file_opening.specs.Opening.{Allows}
 use Rattle.file_opening.specs.declared.open_how.Access.TheVariants.{ReadWrite}
 use Rattle.file_opening.specs.declared.open_how.OpenHow.{OpenHow}
+use Rattle.redo_area.specs.declared.header.CommitKind.TheVariants.{Images}
 use Rattle.dbm_engines.proofs.Rooms.{enough, makes_room, large_enough, blank_there, opened_new, only_device}
 use Rattle.dbm_engines.proofs.in_memory.new_in_memory.Goals as goal
 
@@ -17,6 +18,7 @@ returns-in-Ok-clause-fresh c =
           false;
       limit = c.args.limit;
       version = c.args.version;
+      commits = Images;
       kept_pages = None;
     } in
     let found = c.in-Ok.ensures.stands tt (λ reads. absurd (cc))
@@ -35,6 +37,7 @@ returns-clause-only c allowed =
           false;
       limit = c.args.limit;
       version = c.args.version;
+      commits = Images;
       kept_pages = None;
     } in
     let blank = blank_there _ _ c.new.ensures.stable in

@@ -2,7 +2,7 @@ use Rattle.std.proofs.Common.{◌≡◌, ℕ, ◌+◌, ◌<◌, List, [], ◌++�
 use Rattle.sect_dev.specs.Device.{Image}
 use Rattle.page_io.proofs.Exits.{exit_is, came, more_later}
 use Rattle.content_pages.proofs.ContentWalks.{said_too, read_goes_on, read_ends, to_read, rest_goes_on, no_page, length-rest}
-use Rattle.dbm_salvage.specs.Images.{laid}
+use Rattle.dbm_salvage.specs.Laid.{laid}
 use Rattle.dbm_salvage.specs.Salvage.{said_in}
 use Rattle.dbm_salvage.specs.declared.contents.NoContent.TheVariants.{Failed, Broken}
 use Rattle.dbm_salvage.proofs.LookRuns.{looks_none, looks_then}
@@ -58,8 +58,8 @@ returns-in_err-at-clause-whole g c honest bytes long is broken =
     let so_far = c.loop-page.invariant in
     let told = c.in_err-at.ensures in
     let exit = exit_is c.from_residual.result c.in_err-at.field-0.0 c.from_residual.ensures.1 in
-    let at = said_in (laid c.args.places.now (dev.seen c.args.dev.now)) c.args.pages in
-    let same = ap (λ (image : Image). said_in (laid c.args.places.now image) c.args.pages) (so_far.looks.only_reads honest).seen in
+    let at = said_in (laid c.args.images.now (dev.seen c.args.dev.now)) c.args.pages in
+    let same = ap (λ (image : Image). said_in (laid c.args.images.now image) c.args.pages) (so_far.looks.only_reads honest).seen in
     let rest = so_far.rest honest bytes long is in
     let size : length c.loop-page.content.items + c.loop-page.left ≡ length bytes =
     omega (arith, so_far.held, long) in
@@ -70,7 +70,7 @@ returns-in_err-at-clause-whole g c honest bytes long is broken =
       c.pages_for-page-end.ensures.number,
     ) in
     let here = to_read at c.loop-page.at c.loop-page.left c.loop-page.content.items bytes rest size
-    more (said_in (laid c.args.places.now (dev.seen c.loop-page.dev)) c.args.pages) c.min-part.result same
+    more (said_in (laid c.args.images.now (dev.seen c.loop-page.dev)) c.args.pages) c.min-part.result same
     c.min-part.ensures in
     told.whole (so_far.looks.honesty.1 honest) here.next here.part here.some
     here.size_is here.says (came _ _ exit Broken broken)
@@ -80,7 +80,7 @@ loop-page-preserved g c =
     let dev = g.D.SectorDev in
     let so_far = c.loop-page.invariant in
     let told = c.in_ok-at.ensures in
-    let at = said_in (laid c.args.places.now (dev.seen c.args.dev.now)) c.args.pages in
+    let at = said_in (laid c.args.images.now (dev.seen c.args.dev.now)) c.args.pages in
     let more : 0 < c.loop-page.left = omega (
       arith,
       so_far.left,
@@ -100,7 +100,7 @@ loop-page-preserved g c =
       held = omega (arith, so_far.held, told.longer, c.min-part.ensures);
       left = omega (arith, so_far.left, c.min-part.ensures);
       read = λ honest.
-          let same = ap (λ (image : Image). said_in (laid c.args.places.now image) c.args.pages) (so_far.looks.only_reads honest).seen in
+          let same = ap (λ (image : Image). said_in (laid c.args.images.now image) c.args.pages) (so_far.looks.only_reads honest).seen in
           let part = told.says (so_far.looks.honesty.1 honest) in
           read_goes_on at c.args.first c.loop-page.at c.loop-page._page
           c.in_ok-at.at c.loop-page.content.items part.0 c.read_part.new.content.items
@@ -108,7 +108,7 @@ loop-page-preserved g c =
           (omega (arith, part.1, c.min-part.ensures))
           (said_too _ _ c.loop-page.at _ (sym same) part.3) part.2;
       rest = λ honest bytes long is.
-          let same = ap (λ (image : Image). said_in (laid c.args.places.now image) c.args.pages) (so_far.looks.only_reads honest).seen in
+          let same = ap (λ (image : Image). said_in (laid c.args.images.now image) c.args.pages) (so_far.looks.only_reads honest).seen in
           let part = told.says (so_far.looks.honesty.1 honest) in
           rest_goes_on at c.loop-page.at c.loop-page.left
           c.loop-page.content.items bytes (so_far.rest honest bytes long is)
@@ -138,7 +138,7 @@ pub returns-then-at-eq0-clause-read : goal.returns-then-at-eq0-clause-read
 returns-then-at-eq0-clause-read g c honest =
     let so_far = c.loop-page.invariant in
     let number = c.pages_for-page-end.ensures.number in
-    read_ends (said_in (laid c.args.places.now (g.D.SectorDev.seen c.args.dev.now)) c.args.pages) c.args.first c.loop-page.at c.loop-page._page
+    read_ends (said_in (laid c.args.images.now (g.D.SectorDev.seen c.args.dev.now)) c.args.pages) c.args.first c.loop-page.at c.loop-page._page
     c.loop-page.content.items (so_far.read honest) c.if-at-eq0.true
     (omega (
       arith,
@@ -158,7 +158,7 @@ returns-else-at-eq0-clause-capacity g c = c.loop-page.invariant.capacity
 pub returns-else-at-eq0-clause-whole : goal.returns-else-at-eq0-clause-whole
 returns-else-at-eq0-clause-whole g c honest bytes long is broken =
     let so_far = c.loop-page.invariant in
-    let at = said_in (laid c.args.places.now (g.D.SectorDev.seen c.args.dev.now)) c.args.pages in
+    let at = said_in (laid c.args.images.now (g.D.SectorDev.seen c.args.dev.now)) c.args.pages in
     let rest = so_far.rest honest bytes long is in
     let none : c.loop-page.left ≡ 0 = omega (
       arith,

@@ -1,7 +1,7 @@
 use Rattle.std.proofs.Common.{◌≡◌, ℕ, ◌+◌, ◌-◌, ◌*◌, List, length, vec_len, vec_capacity, ◌≤◌}
 use Rattle.content_pages.specs.Contents.{IsContentAt}
 use Rattle.content_pages.proofs.ContentWalks.{IsReadTo, IsRest}
-use Rattle.dbm_salvage.specs.Images.{laid}
+use Rattle.dbm_salvage.specs.Laid.{laid}
 use Rattle.dbm_salvage.specs.Reads.{Looks}
 use Rattle.dbm_salvage.specs.Salvage.{said_in}
 use Rattle.dbm_salvage.proofs.contents.read_content.Given as goal
@@ -9,7 +9,7 @@ use Rattle.dbm_salvage.proofs.contents.read_content.Given as goal
 abbrev pub invariant-loop-page : goal.invariant-loop-page
 invariant-loop-page g l =
     let dev = g.D.SectorDev in
-    let at = said_in (laid l.fn.places (dev.seen l.fn.dev)) l.fn.pages in
+    let at = said_in (laid l.fn.images (dev.seen l.fn.dev)) l.fn.pages in
     record {
       looks : Looks dev l.fn.dev l.dev;
       capacity : vec_capacity l.fn.content ≤ vec_capacity l.content;

@@ -3,7 +3,7 @@ use Rattle.page_model.specs.Pages.{ContentPage}
 use Rattle.page_model.specs.PageBodies.{filled}
 use Rattle.page_io.proofs.Exits.{not_both}
 use Rattle.content_pages.proofs.ContentTexts.{length-part}
-use Rattle.dbm_salvage.specs.Images.{laid}
+use Rattle.dbm_salvage.specs.Laid.{laid}
 use Rattle.dbm_salvage.proofs.ContentParts.{not_behind, part_said, headed_again, clear_again}
 use Rattle.dbm_salvage.proofs.LookRuns.{from_test}
 use Rattle.dbm_salvage.proofs.contents.read_part.Goals as goal
@@ -13,14 +13,14 @@ use Rattle.dbm_salvage.proofs.contents.read_part.Goals.{then-not-is_plain-via-th
 pub returns-then-n-eq0-clause-whole : goal.returns-then-n-eq0-clause-whole
 returns-then-n-eq0-clause-whole g c honest next part some size says broken =
     ⊎_elim (λ none. absurd (omega (arith, none, some)))
-    (λ behind. not_behind (laid c.args.places.now (g.D.SectorDev.seen c.args.dev.now)) c.args.pages c.args.n next
+    (λ behind. not_behind (laid c.args.images.now (g.D.SectorDev.seen c.args.dev.now)) c.args.pages c.args.n next
     (filled part) behind.1 says)
     c.then-n-eq0.either
 
 -- it is no content page, or has bytes behind the part
 pub returns-then-not-is_plain-clause-whole : goal.returns-then-not-is_plain-clause-whole
 returns-then-not-is_plain-clause-whole g c honest next part some size says broken =
-    let image = laid c.args.places.now (g.D.SectorDev.seen c.args.dev.now) in
+    let image = laid c.args.images.now (g.D.SectorDev.seen c.args.dev.now) in
     let bytes = c.read_laid.new.page.bytes in
     let read = from_test c.read_laid.result c.is_err.ensures.value c.if-is_err.false
     (c.read_laid.ensures.read honest) in
@@ -37,7 +37,7 @@ returns-then-not-is_plain-clause-whole g c honest next part some size says broke
 
 pub returns-clause-says : goal.returns-clause-says
 returns-clause-says g c honest =
-    let image = laid c.args.places.now (g.D.SectorDev.seen c.args.dev.now) in
+    let image = laid c.args.images.now (g.D.SectorDev.seen c.args.dev.now) in
     let bytes = c.read_laid.new.page.bytes in
     let read = from_test c.read_laid.result c.is_err.ensures.value c.if-is_err.false
     (c.read_laid.ensures.read honest) in

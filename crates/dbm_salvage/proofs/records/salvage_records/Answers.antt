@@ -3,7 +3,7 @@ use Rattle.std.specs.Option.{is_none}
 use Rattle.sect_dev.specs.Device.{Image}
 use Rattle.page_io.specs.BucketPages.{page_records}
 use Rattle.page_io.proofs.Exits.{more_later}
-use Rattle.dbm_salvage.specs.Images.{laid}
+use Rattle.dbm_salvage.specs.Laid.{laid}
 use Rattle.dbm_salvage.specs.Salvage.{said_in, is_failed, IsRecordSalvaged}
 use Rattle.dbm_salvage.proofs.LookRuns.{looks_then}
 use Rattle.dbm_salvage.proofs.RecordPairs.{within_page, whole_page, done_more, printed_more}
@@ -38,12 +38,12 @@ loop-i-preserved g c =
           (c.failed_after-has_failed.ensures.only yes);
       done = λ honest.
           let same = (so_far.looks.only_reads honest).seen in
-          let is = subst (λ (image : Image). IsRecordSalvaged (laid c.args.places.now image) c.args.pages
+          let is = subst (λ (image : Image). IsRecordSalvaged (laid c.args.images.now image) c.args.pages
           (page_records bytes) c.loop-i.i (g.W.Write.contents c.loop-i.writer)
           (g.W.Write.contents c.salvage_record.new.writer) lost) same
           (told.pair (so_far.looks.honesty.1 honest)) in
           let done = so_far.done honest in
-          done_more (said_in (laid c.args.places.now (dev.seen c.args.dev.now)) c.args.pages) c.loop-i.has_failed
+          done_more (said_in (laid c.args.images.now (dev.seen c.args.dev.now)) c.args.pages) c.loop-i.has_failed
           (is_failed lost) c.failed_after-has_failed.result (page_records bytes) c.loop-i.i _ _ _
           c.loop-i.printed _ is.pair within c.failed_after-has_failed.ensures.kept
           c.failed_after-has_failed.ensures.now done is.is
@@ -59,7 +59,7 @@ loop-i-preserved g c =
 
 pub returns-clause-page : goal.returns-clause-page
 returns-clause-page g c honest read =
-    let image = laid c.args.places.now (g.D.SectorDev.seen c.args.dev.now) in
+    let image = laid c.args.images.now (g.D.SectorDev.seen c.args.dev.now) in
     let bytes = c.args.page.now.bytes in
     let so_far = c.loop-i.invariant in
     let all = whole_page bytes c.slots-count.result c.requires.page c.slots-count.ensures in

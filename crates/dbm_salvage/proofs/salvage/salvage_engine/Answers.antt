@@ -1,7 +1,7 @@
-use Rattle.std.proofs.Common.{◌+◌, List, ℕ, refl, subst, arith}
+use Rattle.std.proofs.Common.{◌+◌, refl, subst, arith}
 use Rattle.sect_dev.specs.Device.{Image, MoreFaults}
 use Rattle.page_io.proofs.Exits.{more_later}
-use Rattle.dbm_salvage.specs.Images.{laid}
+use Rattle.dbm_salvage.specs.Laid.{laid}
 use Rattle.dbm_salvage.specs.Salvage.{IsPageSalvaged}
 use Rattle.dbm_salvage.proofs.FoundPages.{page_salvaged, pages_salvaged}
 use Rattle.dbm_salvage.proofs.LookRuns.{looks_then}
@@ -25,12 +25,10 @@ loop-n-preserved g c =
           let same = (so_far.looks.only_reads honest).seen in
           let old = g.W.Write.contents c.loop-n.writer in
           let new = g.W.Write.contents c.salvage_page.new.writer in
-          let page = subst (λ (places : List ℕ). IsPageSalvaged (laid places (dev.seen first)) c.args.pages
-          (MoreFaults (dev.faults c.loop-n.dev) (dev.faults last)) c.loop-n.n old new found.printed
-          found.trouble) c.as_slice.ensures.value (subst (λ (image : Image). IsPageSalvaged (laid c.as_slice.result.now image) c.args.pages
-          (MoreFaults (dev.faults c.loop-n.dev) (dev.faults last)) c.loop-n.n old new found.printed
-          found.trouble) same (told.page (so_far.looks.honesty.1 honest))) in
-          page_salvaged (laid c.args.images.now.places.items (dev.seen first)) c.args.pages
+          let page = subst (λ (image : Image). IsPageSalvaged (laid c.args.images.now image)
+          c.args.pages (MoreFaults (dev.faults c.loop-n.dev) (dev.faults last)) c.loop-n.n old new
+          found.printed found.trouble) same (told.page (so_far.looks.honesty.1 honest)) in
+          page_salvaged (laid c.args.images.now (dev.seen first)) c.args.pages
           (MoreFaults (dev.faults first) (dev.faults c.loop-n.dev))
           (MoreFaults (dev.faults c.loop-n.dev) (dev.faults last))
           (MoreFaults (dev.faults first) (dev.faults last)) c.loop-n.n

@@ -59,3 +59,7 @@ returns-clause-pages g c honest =
     ∙ new_pages (file_pages home c.args.old_end) (page_at (dev.seen c.bring_home.new.dev))
     c.args.old_end (c.in_ok-bring_home.ensures.pages honest) c.args.new_end pages pages refl
     c.requires.grown
+
+pub arm_next-requires-clause-held : goal.arm_next-requires-clause-held
+arm_next-requires-clause-held g c honest =
+    (c.requires.waiting.waits honest).holds (omega (arith, c.in-Some.ensures.some.some))

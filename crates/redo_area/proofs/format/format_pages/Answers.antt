@@ -8,9 +8,10 @@ use Rattle.page_io.proofs.PageLaws.{same_page, at_same, at_other}
 use Rattle.page_io.specs.Store.{file_of, Pages, pages_from, file_pages, bytes_of}
 use Rattle.page_io.proofs.Overlays.{same_pages}
 use Rattle.redo_area.specs.Header.{header_of, spelled}
+use Rattle.redo_area.specs.declared.header.CommitKind.{CommitKind}
 use Rattle.redo_area.specs.File.{settled, IsBlankOr}
 use Rattle.redo_area.proofs.Blanks.{blank_image}
-use Rattle.redo_area.proofs.Headers.{says_clear}
+use Rattle.redo_area.proofs.Headers.{says_clear, kind_seen}
 use Rattle.redo_area.proofs.Images.{settled-clear, rest_after}
 use Rattle.redo_area.proofs.CommitRuns.{then_header}
 use Rattle.redo_area.proofs.format.format_pages.Goals as goal
@@ -40,23 +41,23 @@ module _ {D : Type 0} (dev : Ghosts D) (first mid : D)
       (none (image 0) (is 0 (omega arith)))))
 
   -- and then the clear commit sector
-  file_leaves : (new : D) (content : List ℕ) (count : ℕ) → dev.candidate first 0 (dev.seen first 0)
+  file_leaves : (kind : CommitKind) (new : D) (content : List ℕ) (count : ℕ) → dev.candidate first 0 (dev.seen first 0)
       → dev.sectors first < 2 ^ 32 → 4 ≤ 1 + count → 1 + count ≤ dev.sectors first / 4
-      → content ≡ spelled 0 (1 + count) 0 0 → IsStable (dev.candidate mid) (dev.seen mid)
+      → content ≡ spelled kind 0 (1 + count) 0 0 → IsStable (dev.candidate mid) (dev.seen mid)
       → ((m : ℕ) → m < 4 * 1 → dev.seen mid m ≡ dev.seen first m)
       → pages_from (page_at (dev.seen mid)) 1 count ≡ pages
       → LeavesOnly dev.moment dev.left_since mid new
       (IsImageOf (with_candidate (dev.candidate mid) 0 content))
       → LeavesOnly dev.moment dev.left_since first new
       (λ image. IsBlankOr pages (settled (dev.sectors first / 4) image))
-  file_leaves new content count may fits least room spells stable others written cleared =
+  file_leaves kind new content count may fits least room spells stable others written cleared =
       let cap : ℕ = dev.sectors first / 4 in
       then_header dev (λ image. IsBlankOr pages (settled cap image)) first mid new content
       pages_leave stable cleared
       (inl (blank_image cap (dev.seen mid) (others 0 (omega arith) ∙ none (dev.seen first 0) may)))
       (inr (settled-clear cap (with_sector (dev.seen mid) 0 content) (1 + count)
       (ap (header_of cap) (at_same (dev.seen mid) 0 content 0 refl)
-      ∙ says_clear (dev.sectors first) (1 + count) content fits least room spells)
+      ∙ says_clear kind (dev.sectors first) (1 + count) content fits least room spells)
       ∙ ap (λ (ps : Pages). file_of ps) (made (dev.seen mid) content count pages written)))
 
 pub returns-in_err-put_images-clause-any_moment : goal.returns-in_err-put_images-clause-any_moment
@@ -68,7 +69,7 @@ pub returns-in_err-put_header-clause-any_moment : goal.returns-in_err-put_header
 returns-in_err-put_header-clause-any_moment g c honest none =
     let images = c.in_ok-put_images.ensures in
     file_leaves g.D.SectorDev c.args.dev.now c.put_images.new.dev none (bytes_of c.args.pages.now)
-    (c.put_images.ensures.any_moment honest) c.put_header.new.dev c.clear_sector.result
+    (c.put_images.ensures.any_moment honest) c.args.kind c.put_header.new.dev c.clear_sector.result
     (length c.args.pages.now) (g.met.D.SectorDev.seen_may_stay c.args.dev.now honest 0)
     (g.met.D.SectorDev.fits c.args.dev.now) (omega arith) c.requires.room c.clear_sector.ensures
     (images.stable honest) (images.others honest) (images.written honest)
@@ -78,7 +79,7 @@ pub returns-clause-any_moment : goal.returns-clause-any_moment
 returns-clause-any_moment g c honest none =
     let images = c.in_ok-put_images.ensures in
     file_leaves g.D.SectorDev c.args.dev.now c.put_images.new.dev none (bytes_of c.args.pages.now)
-    (c.put_images.ensures.any_moment honest) c.put_header.new.dev c.clear_sector.result
+    (c.put_images.ensures.any_moment honest) c.args.kind c.put_header.new.dev c.clear_sector.result
     (length c.args.pages.now) (g.met.D.SectorDev.seen_may_stay c.args.dev.now honest 0)
     (g.met.D.SectorDev.fits c.args.dev.now) (omega arith) c.requires.room c.clear_sector.ensures
     (images.stable honest) (images.others honest) (images.written honest)
@@ -89,7 +90,7 @@ returns-clause-rest g c honest =
     let dev = g.D.SectorDev in
     let end : ℕ = 1 + length c.args.pages.now in
     let h1 = c.put_images.ensures.device.honesty.1 honest in
-    let header = says_clear (dev.sectors c.args.dev.now) end c.clear_sector.result
+    let header = says_clear c.args.kind (dev.sectors c.args.dev.now) end c.clear_sector.result
     (g.met.D.SectorDev.fits c.args.dev.now) (omega arith) c.requires.room
     c.clear_sector.ensures in
     rest_after (dev.sectors c.args.dev.now / 4) (dev.candidate c.put_header.new.dev)
@@ -103,3 +104,9 @@ returns-clause-pages g c honest =
     (c.in_ok-put_header.ensures.seen (c.put_images.ensures.device.honesty.1 honest))
     ∙ made (g.D.SectorDev.seen c.put_images.new.dev) c.clear_sector.result (length pages)
     (bytes_of pages) (c.in_ok-put_images.ensures.written honest)
+
+pub returns-clause-kind : goal.returns-clause-kind
+returns-clause-kind g c honest =
+    kind_seen c.args.kind _ _ _ _ _ _ c.clear_sector.result
+    (c.in_ok-put_header.ensures.seen (c.put_images.ensures.device.honesty.1 honest))
+    c.clear_sector.ensures

@@ -16,4 +16,4 @@ returns c =
     ∙ ap (λ (x : List ℕ). overwrite x 16 a) (c.put_u32-2.ensures
     ∙ ap (λ (x : List ℕ). overwrite x 12 e)
     (c.put_u32.ensures ∙ ap (λ (x : List ℕ). overwrite x 8 s) c.put_magic.ensures)))
-    ∙ five_fields (replicate 512 0) magic s e a n (replicate 488 0) refl refl refl refl refl refl
+    ∙ five_fields (replicate 512 0) (magic c.args.kind) s e a n (replicate 488 0) refl refl refl refl refl refl

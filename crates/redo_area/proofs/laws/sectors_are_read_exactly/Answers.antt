@@ -1,17 +1,18 @@
 use Rattle.std.proofs.Common.{refl}
 use Rattle.sect_dev.specs.Sector.{zeros}
-use Rattle.redo_area.specs.Header.{magic, fields, spelled, header_of}
+use Rattle.redo_area.specs.Header.{magic, digit, fields, spelled, header_of}
 use Rattle.redo_area.proofs.laws.sectors_are_read_exactly.Goals as goal
 
 pub returns-clause-good : goal.returns-clause-good
-unfolding zeros magic fields spelled header_of
-returns-clause-good c = record { blank = refl; clear = refl; armed = refl; bytes = refl }
+unfolding zeros magic digit fields spelled header_of
+returns-clause-good c = record { blank = refl; clear = refl; clear_log = refl; armed = refl; logging = refl; bytes = refl }
 
 pub returns-clause-wrong : goal.returns-clause-wrong
-unfolding zeros magic fields spelled header_of
+unfolding zeros magic digit fields spelled header_of
 returns-clause-wrong c = record {
   magic = refl;
   state = refl;
+  no_log = refl;
   low_end = refl;
   high_end = refl;
   clear_start = refl;
@@ -19,6 +20,9 @@ returns-clause-wrong c = record {
   no_image = refl;
   low_start = refl;
   high_count = refl;
+  log_behind = refl;
+  low_log = refl;
+  log_count = refl;
   byte_24 = refl;
   byte_511 = refl;
 }

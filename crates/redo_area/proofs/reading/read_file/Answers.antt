@@ -1,16 +1,20 @@
-use Rattle.std.proofs.Common.{◌≡◌, ◌≢◌, ◌≤◌, ◌/◌, ℕ, List, [], Err, Some, ◌∙◌, refl, sym, ap, subst}
+use Rattle.std.proofs.Common.{◌≡◌, ◌≢◌, ◌≤◌, ◌/◌, ℕ, Bool, cond, List, [], Err, Some, ◌∙◌, refl, sym, ap, subst}
 use Rattle.std.proofs.lemmas.Result.{IfOk-from_err}
 use Rattle.sect_dev.specs.Device.{Image}
-use Rattle.page_io.specs.Store.{bytes_of, are_in_order}
+use Rattle.page_io.specs.Page.{page_at}
+use Rattle.page_io.specs.Store.{bytes_of, file_of, file_pages, overlaid, are_in_order}
+use Rattle.commit_log.specs.Log.{settled_at}
 use Rattle.page_io.proofs.Exits.{exit_is, came, if_exit, no_err, later_then, more_later, both_ways}
 use Rattle.page_io.specs.declared.page.Page.{Page}
 use Rattle.redo_area.specs.File.{redo_images}
+use Rattle.redo_area.specs.Header.{kind_of}
+use Rattle.redo_area.specs.declared.header.CommitKind.TheVariants.{Images, Log}
 use Rattle.redo_area.specs.Opening.{refusal_of}
 use Rattle.redo_area.specs.declared.open_fault.OpenFault.{OpenFault}
 use Rattle.redo_area.specs.declared.open_fault.OpenFault.TheVariants.{Memory, Device, Blank, NotOurs, Damaged}
-use Rattle.redo_area.proofs.Openings.{below_room, says_armed, found-clear, found-armed, refused-blank, refused-not_ours, refused-damaged, refused-armed}
+use Rattle.redo_area.proofs.Openings.{below_room, says_armed, found-clear, found-armed, refused-blank, refused-not_ours, refused-damaged, refused-armed, found-logging, refused-logging}
 use Rattle.redo_area.proofs.ReadRuns.{sector_read, more_reads}
-use Rattle.redo_area.proofs.Results.{from_test, fault_from_test, other_fault}
+use Rattle.redo_area.proofs.Results.{from_test, fault_from_test, other_fault, ok_then, err_then}
 use Rattle.redo_area.proofs.reading.read_file.Goals as goal
 
 -- the sector is not read
@@ -20,6 +24,7 @@ returns-then-is_err g c =
     record {
       found = λ honest. tt;
       end = tt;
+      kind = λ honest. tt;
       rising = tt;
       refused = λ honest device memory. absurd (device refl);
       memory = λ honest is. other_fault Device Memory refl is;
@@ -40,6 +45,7 @@ returns-in-Blank g c =
     record {
       found = λ honest. tt;
       end = tt;
+      kind = λ honest. tt;
       rising = tt;
       refused = λ honest device memory.
           let read = from_test c.read.result c.is_err.ensures.value c.if-is_err.false
@@ -63,6 +69,7 @@ returns-in-NotOurs g c =
     record {
       found = λ honest. tt;
       end = tt;
+      kind = λ honest. tt;
       rising = tt;
       refused = λ honest device memory.
           let read = from_test c.read.result c.is_err.ensures.value c.if-is_err.false
@@ -86,6 +93,7 @@ returns-in-Damaged g c =
     record {
       found = λ honest. tt;
       end = tt;
+      kind = λ honest. tt;
       rising = tt;
       refused = λ honest device memory.
           let read = from_test c.read.result c.is_err.ensures.value c.if-is_err.false
@@ -120,6 +128,9 @@ returns-in-Clear g c =
         subst (λ (k : ℕ). clear.end ≤ k / 4)
             c.capacity-capacity.ensures clear.ensures.in_range.1,
       );
+      kind = λ honest.
+          c.kind_of-kind.ensures ∙ ap kind_of
+          (from_test c.read.result c.is_err.ensures.value c.if-is_err.false (told.read honest));
       rising =
           let none : c.new.result.items ≡ [] = c.new.ensures.items in
           ap (λ (ps : List Page). are_in_order 1 clear.end (bytes_of ps)) none;
@@ -160,6 +171,9 @@ returns-in_ok-redo-in-Armed g c =
         subst (λ (k : ℕ). armed.end ≤ k / 4) c.capacity-capacity.ensures
             (below_room _ _ _ _ range.1 range.2),
       );
+      kind = λ honest.
+          c.kind_of-kind.ensures ∙ ap kind_of
+          (from_test c.read.result c.is_err.ensures.value c.if-is_err.false (told.read honest));
       rising = more.rising;
       refused = λ honest. tt;
       memory = λ honest is. no_err _ _ is;
@@ -189,6 +203,7 @@ returns-in_err-redo-in-Armed g c =
     record {
       found = λ honest. IfOk-from_err _ _ result.ensures.0;
       end = IfOk-from_err _ _ result.ensures.0;
+      kind = λ honest. IfOk-from_err _ _ result.ensures.0;
       rising = IfOk-from_err _ _ result.ensures.0;
       refused = λ honest.
           let read = from_test c.read.result c.is_err.ensures.value c.if-is_err.false
@@ -218,3 +233,39 @@ returns-in_err-redo-in-Armed g c =
       honesty = both_ways more.honesty told.honesty;
       size = more.size ∙ told.size;
     }
+
+-- a log is read
+pub returns-in-Logging-clause-found : goal.returns-in-Logging-clause-found
+returns-in-Logging-clause-found g c honest =
+    let dev = g.D.SectorDev in
+    let first = c.args.dev.now in
+    let told = c.read.ensures in
+    let read = from_test c.read.result c.is_err.ensures.value c.if-is_err.false
+    (told.read honest) in
+    ok_then _ _ c.read_log.result (c.read_log.ensures.found (told.honesty.1 honest))
+    (λ file is. found-logging (dev.seen first) c.capacity-capacity.ensures read file.end
+    c.in-Logging.start (bytes_of file.redo.items) c.in-Logging.ensures.said
+    (subst (λ (s : Image). settled_at s c.in-Logging.start
+    ≡ file_of (file_pages (overlaid (bytes_of file.redo.items) (page_at s)) file.end))
+    (told.seen honest) is))
+
+pub returns-in-Logging-clause-refused : goal.returns-in-Logging-clause-refused
+returns-in-Logging-clause-refused g c honest =
+    let dev = g.D.SectorDev in
+    let first = c.args.dev.now in
+    let told = c.read.ensures in
+    let read = from_test c.read.result c.is_err.ensures.value c.if-is_err.false
+    (told.read honest) in
+    err_then _ _ c.read_log.result c.read_log.ensures.only
+    (λ fault is only. refused-logging (dev.seen first) c.capacity-capacity.ensures read fault
+    c.in-Logging.start c.in-Logging.ensures.said c.in-Logging.ensures.ours only
+    (λ same. ap (λ (s : Image). settled_at s c.in-Logging.start) (sym (told.seen honest))
+    ∙ c.read_log.ensures.damaged (told.honesty.1 honest) (is ∙ ap Err same)))
+
+pub returns-in-Logging-clause-kind : goal.returns-in-Logging-clause-kind
+returns-in-Logging-clause-kind g c honest =
+    let read = from_test c.read.result c.is_err.ensures.value c.if-is_err.false
+    (c.read.ensures.read honest) in
+    ok_then _ _ c.read_log.result c.read_log.ensures.kind
+    (λ file is. is ∙ sym (ap kind_of (sym read)
+    ∙ ap (λ (b : Bool). cond b Log Images) c.in-Logging.ensures.log))

@@ -80,3 +80,19 @@ returns-in-Ok-true-clause-any_moment g c honest =
       subst (λ (s : ℕ). settled (s / 4) image ≡ settled (s / 4) (dev.seen mid))
           c.sync_and_read.ensures.device.size is,
     ))
+
+pub returns-in-Ok-Some-clause-any_moment : goal.returns-in-Ok-Some-clause-any_moment
+returns-in-Ok-Some-clause-any_moment g c honest =
+    let dev = g.D.SectorDev in
+    let first = c.args.dev.now in
+    let mid = c.sync_and_read.new.dev in
+    followed_by dev.moment dev.left_since first mid c.end_logging.new.dev
+    (SettlesAsBefore (dev.sectors first / 4) (dev.candidate first)) _
+    (as_before dev first mid (c.sync_and_read.ensures.any_moment honest))
+    (c.end_logging.ensures.any_moment (c.sync_and_read.ensures.device.honesty.1 honest))
+    (λ image is. (
+      dev.seen mid,
+      c.sync_and_read.ensures.start honest,
+      subst (λ (s : ℕ). settled (s / 4) image ≡ settled (s / 4) (dev.seen mid))
+          c.sync_and_read.ensures.device.size is,
+    ))

@@ -6,7 +6,7 @@ use Rattle.page_io.proofs.PageLaws.{at_other}
 use Rattle.page_io.specs.Store.{pages_from, file_pages, overlaid, bytes_of}
 use Rattle.page_io.specs.declared.page.Page.{Page}
 use Rattle.redo_area.specs.Header.{header_of}
-use Rattle.redo_area.proofs.Headers.{says_armed}
+use Rattle.redo_area.proofs.Headers.{says_armed, kind_seen}
 use Rattle.redo_area.proofs.Images.{now_armed}
 use Rattle.redo_area.proofs.CommitRuns.{images_leave, armed_leaves}
 use Rattle.redo_area.proofs.steps.arm.Goals as goal
@@ -26,7 +26,7 @@ returns-in_err-put_header-clause-any_moment g c honest =
     armed_leaves g.D.SectorDev c.args.dev.now c.put_images.new.dev (c.requires.rest honest)
     c.args.start c.requires.old (omega (arith, c.requires.pages.least, c.requires.new))
     (c.put_images.ensures.any_moment honest)
-    c.put_header.new.dev c.armed_sector.result c.args.new_end c.args.pages.now
+    c.args.kind c.put_header.new.dev c.armed_sector.result c.args.new_end c.args.pages.now
     (g.met.D.SectorDev.fits c.args.dev.now) c.requires.pages.least c.requires.pages.some
     c.requires.room c.armed_sector.ensures c.requires.new c.requires.pages.in_order
     (images.stable honest) (images.others honest)
@@ -39,7 +39,7 @@ returns-clause-any_moment g c honest =
     armed_leaves g.D.SectorDev c.args.dev.now c.put_images.new.dev (c.requires.rest honest)
     c.args.start c.requires.old (omega (arith, c.requires.pages.least, c.requires.new))
     (c.put_images.ensures.any_moment honest)
-    c.put_header.new.dev c.armed_sector.result c.args.new_end c.args.pages.now
+    c.args.kind c.put_header.new.dev c.armed_sector.result c.args.new_end c.args.pages.now
     (g.met.D.SectorDev.fits c.args.dev.now) c.requires.pages.least c.requires.pages.some
     c.requires.room c.armed_sector.ensures c.requires.new c.requires.pages.in_order
     (images.stable honest) (images.others honest)
@@ -53,7 +53,7 @@ returns-clause-armed g c honest =
     let start = c.args.start in
     let cap : ℕ = dev.sectors c.args.dev.now / 4 in
     let h1 = c.put_images.ensures.device.honesty.1 honest in
-    let header = says_armed (dev.sectors c.args.dev.now) c.args.new_end start (length pages)
+    let header = says_armed c.args.kind (dev.sectors c.args.dev.now) c.args.new_end start (length pages)
     c.armed_sector.result (g.met.D.SectorDev.fits c.args.dev.now)
     c.requires.pages.least c.requires.new c.requires.pages.some c.requires.room
     c.armed_sector.ensures in
@@ -77,3 +77,9 @@ returns-clause-pages g c honest =
     λ m pos lt. ap (λ (s : Image). s m) (c.in_ok-put_header.ensures.seen h1)
     ∙ at_other mid 0 c.armed_sector.result m (omega (arith, pos))
     ∙ c.in_ok-put_images.ensures.others honest m lt
+
+pub returns-clause-kind : goal.returns-clause-kind
+returns-clause-kind g c honest =
+    kind_seen c.args.kind _ _ _ _ _ _ c.armed_sector.result
+    (c.in_ok-put_header.ensures.seen (c.put_images.ensures.device.honesty.1 honest))
+    c.armed_sector.ensures

@@ -7,7 +7,7 @@ use Rattle.page_io.specs.declared.page.Page.{Page}
 use Rattle.page_io.proofs.PageLaws.{same_page, at_other}
 use Rattle.page_io.proofs.StagedPages.{order_wider}
 use Rattle.redo_area.specs.Header.{header_of}
-use Rattle.redo_area.proofs.Headers.{says_armed}
+use Rattle.redo_area.proofs.Headers.{says_armed, kind_seen}
 use Rattle.redo_area.proofs.Images.{below_end, now_armed}
 use Rattle.redo_area.proofs.GrownRuns.{new_leave, images_follow, grown_leaves}
 use Rattle.redo_area.proofs.steps.arm_grown.Goals as goal
@@ -45,7 +45,7 @@ returns-in_err-put_header-clause-any_moment g c honest =
     c.put_header.new.dev c.armed_sector.result changed
     (order_wider 1 c.args.old_end c.args.new_end (bytes_of changed) c.requires.grown
     c.requires.changed.in_order)
-    (says_armed (dev.sectors c.args.dev.now) c.args.new_end c.args.new_end (length changed)
+    (says_armed c.args.kind (dev.sectors c.args.dev.now) c.args.new_end c.args.new_end (length changed)
     c.armed_sector.result (g.met.D.SectorDev.fits c.args.dev.now)
     (omega (arith, c.requires.changed.least, c.requires.grown)) (omega arith)
     c.requires.changed.some c.requires.room c.armed_sector.ensures)
@@ -66,7 +66,7 @@ returns-clause-any_moment g c honest =
     c.put_header.new.dev c.armed_sector.result changed
     (order_wider 1 c.args.old_end c.args.new_end (bytes_of changed) c.requires.grown
     c.requires.changed.in_order)
-    (says_armed (dev.sectors c.args.dev.now) c.args.new_end c.args.new_end (length changed)
+    (says_armed c.args.kind (dev.sectors c.args.dev.now) c.args.new_end c.args.new_end (length changed)
     c.armed_sector.result (g.met.D.SectorDev.fits c.args.dev.now)
     (omega (arith, c.requires.changed.least, c.requires.grown)) (omega arith)
     c.requires.changed.some c.requires.room c.armed_sector.ensures)
@@ -82,7 +82,7 @@ returns-clause-armed g c honest =
     let changed = c.args.changed.now in
     let end = c.args.new_end in
     let cap : ℕ = dev.sectors c.args.dev.now / 4 in
-    let header = says_armed (dev.sectors c.args.dev.now) end end (length changed)
+    let header = says_armed c.args.kind (dev.sectors c.args.dev.now) end end (length changed)
     c.armed_sector.result (g.met.D.SectorDev.fits c.args.dev.now)
     (omega (arith, c.requires.changed.least, c.requires.grown)) (omega arith)
     c.requires.changed.some c.requires.room c.armed_sector.ensures in
@@ -120,3 +120,9 @@ write_homes-requires g c k lt =
     let below : own_number (get_or new k []) < c.args.new_end =
     below_end c.args.old_end c.args.new_end new k c.requires.new (omega (arith, lt, long)) in
     omega (arith, below, c.requires.room)
+
+pub returns-clause-kind : goal.returns-clause-kind
+returns-clause-kind g c honest =
+    let h1 = c.write_homes.ensures.device.honesty.1 honest in
+    let h2 = c.put_images.ensures.device.honesty.1 h1 in
+    kind_seen c.args.kind _ _ _ _ _ _ c.armed_sector.result (c.in_ok-put_header.ensures.seen h2) c.armed_sector.ensures

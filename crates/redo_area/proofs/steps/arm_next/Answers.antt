@@ -1,4 +1,4 @@
-use Rattle.std.proofs.Common.{◌≡◌, ◌⊎◌, ◌<◌, ◌≤◌, ◌+◌, ◌/◌, ℕ, List, [], length, get_or, inl, inr, refl, ◌∙◌, ap, arith}
+use Rattle.std.proofs.Common.{◌≡◌, ◌<◌, ◌/◌, ℕ, [], length, get_or, inl, refl, ◌∙◌, ap, arith}
 use Rattle.std.proofs.lemmas.List.{length-map}
 use Rattle.sect_dev.specs.Device.{Image, with_sector}
 use Rattle.page_io.specs.Page.{page_at, own_number}
@@ -6,26 +6,18 @@ use Rattle.page_io.specs.Store.{pages_from, file_pages, overlaid, bytes_of}
 use Rattle.page_io.specs.declared.page.Page.{Page}
 use Rattle.page_io.proofs.PageLaws.{same_page, at_other}
 use Rattle.redo_area.specs.Header.{header_of}
-use Rattle.redo_area.proofs.Headers.{says_armed}
+use Rattle.redo_area.proofs.Headers.{says_armed, kind_seen}
 use Rattle.redo_area.proofs.Images.{below_end, images_stay, now_home, now_armed}
 use Rattle.redo_area.proofs.CommitRuns.{beside_leave, both_leave, next_leaves}
 use Rattle.redo_area.proofs.steps.arm_next.Goals as goal
 
-far : (start count old_start : ℕ) (waiting : List Page)
-    → (start + count ≤ old_start) ⊎ (old_start + length waiting ≤ start)
-    → (start + count ≤ old_start) ⊎ (old_start + length (bytes_of waiting) ≤ start)
-far start count old_start waiting (inl below) = inl below
-far start count old_start waiting (inr above) =
-    inr (omega (arith, above, length-map waiting (λ (p : Page). p.bytes)))
-
 pub returns-in_err-write_images-clause-any_moment : goal.returns-in_err-write_images-clause-any_moment
 returns-in_err-write_images-clause-any_moment g c honest =
     let dev = g.D.SectorDev in
-    beside_leave dev c.args.dev.now c.write_images.new.dev (c.requires.armed honest) c.args.place
-    (length c.args.pages.now) c.requires.behind (omega (arith, c.requires.place.behind))
+    beside_leave dev c.args.dev.now c.write_images.new.dev (c.requires.held honest) c.args.place
+    (length c.args.pages.now) (omega (arith, c.requires.place.behind))
     (omega (arith, c.requires.pages.least, c.requires.place.behind))
-    (far c.args.place (length c.args.pages.now) c.args.start c.args.waiting.now
-    c.requires.place.apart) (c.write_images.ensures.any_moment honest)
+    c.requires.place.apart (c.write_images.ensures.any_moment honest)
     (file_pages (overlaid (bytes_of c.args.pages.now)
     (overlaid (bytes_of c.args.waiting.now) (page_at (dev.seen c.args.dev.now)))) c.args.new_end)
 
@@ -33,11 +25,10 @@ pub returns-in_err-put_homes-clause-any_moment : goal.returns-in_err-put_homes-c
 returns-in_err-put_homes-clause-any_moment g c honest =
     let dev = g.D.SectorDev in
     let h1 = c.write_images.ensures.device.honesty.1 honest in
-    both_leave dev c.args.dev.now c.write_images.new.dev (c.requires.armed honest) c.args.place
-    (length c.args.pages.now) c.requires.behind (omega (arith, c.requires.place.behind))
+    both_leave dev c.args.dev.now c.write_images.new.dev (c.requires.held honest) c.args.place
+    (length c.args.pages.now) (omega (arith, c.requires.place.behind))
     (omega (arith, c.requires.pages.least, c.requires.place.behind))
-    (far c.args.place (length c.args.pages.now) c.args.start c.args.waiting.now
-    c.requires.place.apart) (c.write_images.ensures.any_moment honest) c.put_homes.new.dev
+    c.requires.place.apart (c.write_images.ensures.any_moment honest) c.put_homes.new.dev
     (file_pages (overlaid (bytes_of c.args.pages.now)
     (overlaid (bytes_of c.args.waiting.now) (page_at (dev.seen c.args.dev.now)))) c.args.new_end)
     (c.write_images.ensures.candidates honest) (c.put_homes.ensures.any_moment h1)
@@ -48,15 +39,14 @@ returns-in_err-put_header-clause-any_moment g c honest =
     let h1 = c.write_images.ensures.device.honesty.1 honest in
     let images = c.in_ok-write_images.ensures in
     let homes = c.in_ok-put_homes.ensures in
-    next_leaves dev c.args.dev.now c.write_images.new.dev (c.requires.armed honest) c.args.place
-    (length c.args.pages.now) c.requires.behind (omega (arith, c.requires.place.behind))
+    next_leaves dev c.args.dev.now c.write_images.new.dev (c.requires.held honest) c.args.place
+    (length c.args.pages.now) (omega (arith, c.requires.place.behind))
     (omega (arith, c.requires.pages.least, c.requires.place.behind))
-    (far c.args.place (length c.args.pages.now) c.args.start c.args.waiting.now
-    c.requires.place.apart) (images.any_moment honest) c.put_homes.new.dev c.put_header.new.dev
+    c.requires.place.apart (images.any_moment honest) c.put_homes.new.dev c.put_header.new.dev
     c.armed_sector.result c.args.new_end c.args.pages.now refl (images.candidates honest)
     (images.others honest) (images.written honest) (c.put_homes.ensures.any_moment h1)
     (homes.others h1) (homes.written h1) (homes.stable h1)
-    (says_armed (dev.sectors c.args.dev.now) c.args.new_end c.args.place
+    (says_armed c.args.area.kind (dev.sectors c.args.dev.now) c.args.new_end c.args.place
     (length c.args.pages.now) c.armed_sector.result (g.met.D.SectorDev.fits c.args.dev.now)
     c.requires.pages.least (omega (arith, c.requires.place.behind))
     c.requires.pages.some c.requires.place.room c.armed_sector.ensures)
@@ -69,15 +59,14 @@ returns-clause-any_moment g c honest =
     let h1 = c.write_images.ensures.device.honesty.1 honest in
     let images = c.in_ok-write_images.ensures in
     let homes = c.in_ok-put_homes.ensures in
-    next_leaves dev c.args.dev.now c.write_images.new.dev (c.requires.armed honest) c.args.place
-    (length c.args.pages.now) c.requires.behind (omega (arith, c.requires.place.behind))
+    next_leaves dev c.args.dev.now c.write_images.new.dev (c.requires.held honest) c.args.place
+    (length c.args.pages.now) (omega (arith, c.requires.place.behind))
     (omega (arith, c.requires.pages.least, c.requires.place.behind))
-    (far c.args.place (length c.args.pages.now) c.args.start c.args.waiting.now
-    c.requires.place.apart) (images.any_moment honest) c.put_homes.new.dev c.put_header.new.dev
+    c.requires.place.apart (images.any_moment honest) c.put_homes.new.dev c.put_header.new.dev
     c.armed_sector.result c.args.new_end c.args.pages.now refl (images.candidates honest)
     (images.others honest) (images.written honest) (c.put_homes.ensures.any_moment h1)
     (homes.others h1) (homes.written h1) (homes.stable h1)
-    (says_armed (dev.sectors c.args.dev.now) c.args.new_end c.args.place
+    (says_armed c.args.area.kind (dev.sectors c.args.dev.now) c.args.new_end c.args.place
     (length c.args.pages.now) c.armed_sector.result (g.met.D.SectorDev.fits c.args.dev.now)
     c.requires.pages.least (omega (arith, c.requires.place.behind))
     c.requires.pages.some c.requires.place.room c.armed_sector.ensures)
@@ -94,7 +83,7 @@ returns-clause-armed g c honest =
     let start = c.args.place in
     let cap : ℕ = dev.sectors c.args.dev.now / 4 in
     let h2 = c.put_homes.ensures.device.honesty.1 h1 in
-    let header = says_armed (dev.sectors c.args.dev.now) c.args.new_end start (length pages)
+    let header = says_armed c.args.area.kind (dev.sectors c.args.dev.now) c.args.new_end start (length pages)
     c.armed_sector.result (g.met.D.SectorDev.fits c.args.dev.now)
     c.requires.pages.least (omega (arith, c.requires.place.behind))
     c.requires.pages.some c.requires.place.room c.armed_sector.ensures in
@@ -142,3 +131,9 @@ put_homes-requires g c k lt =
       c.requires.place.room,
       c.write_images.ensures.device.size,
     )
+
+pub returns-clause-kind : goal.returns-clause-kind
+returns-clause-kind g c honest =
+    let h1 = c.write_images.ensures.device.honesty.1 honest in
+    let h2 = c.put_homes.ensures.device.honesty.1 h1 in
+    kind_seen c.args.area.kind _ _ _ _ _ _ c.armed_sector.result (c.in_ok-put_header.ensures.seen h2) c.armed_sector.ensures

@@ -1,5 +1,6 @@
-use Rattle.std.proofs.Common.{◌≡◌, ◌/◌, ◌+◌, ℕ, [], length, true, sym, ap, arith, subst}
+use Rattle.std.proofs.Common.{◌≡◌, ◌/◌, ◌+◌, ℕ, [], length, true, sym, ◌∙◌, ap, arith, subst}
 use Rattle.page_io.specs.Store.{bytes_of}
+use Rattle.redo_area.specs.declared.area.RedoArea.{RedoArea}
 use Rattle.redo_area.specs.File.{IsAtRest}
 use Rattle.redo_area.specs.Settling.{rests_at}
 use Rattle.redo_area.proofs.Results.{from_test}
@@ -28,10 +29,13 @@ invariant_of-result-clause-settles g c still usable =
     let ends : 1 + count ≡ count + 1 = omega arith in
     let rest = from_test c.format_pages.result c.is_err.ensures.value c.if-is_err.false
     (c.format_pages.ensures.rest honest) in
-    rests_at true (dev.sectors new / 4) (count + 1) (count + 1) (bytes_of kept) (dev.candidate new)
-    (dev.seen new) (ap bytes_of none)
+    rests_at true (dev.sectors new / 4) (count + 1) c.empty.result (bytes_of kept)
+    (dev.candidate new) (dev.seen new) (ap (λ (a : RedoArea). a.held) c.empty.ensures)
+    (ap (λ (a : RedoArea). a.log) c.empty.ensures) (ap bytes_of none)
     (subst (λ (end : ℕ). at_rest (dev.sectors new / 4) end) ends
     (subst (λ (cap : ℕ). at_rest cap (1 + count)) same rest))
+    (λ _. from_test c.format_pages.result c.is_err.ensures.value c.if-is_err.false
+    (c.format_pages.ensures.kind honest) ∙ sym (ap (λ (a : RedoArea). a.kind) c.empty.ensures))
 
 pub returns-clause-any_moment : goal.returns-clause-any_moment
 returns-clause-any_moment g c honest none =

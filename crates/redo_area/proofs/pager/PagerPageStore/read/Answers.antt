@@ -1,14 +1,16 @@
-use Rattle.std.proofs.Common.{◌≡◌, List, true, refl, sym, ◌∙◌, ap, subst, arith, rules}
+use Rattle.std.proofs.Common.{◌≡◌, ◌/◌, ℕ, List, true, refl, sym, ◌∙◌, ap, subst, arith, rules}
 use Rattle.sect_dev.specs.Device.{Image}
 use Rattle.page_io.specs.Page.{page_at}
 use Rattle.page_io.specs.Store.{bytes_of, file_pages, overlaid, page_of, are_in_order}
 use Rattle.page_io.proofs.Overlays.{overlaid-staged, overlaid-none}
 use Rattle.page_io.proofs.StagedPages.{order_wider}
 use Rattle.page_io.specs.declared.page.Page.{Page}
+use Rattle.redo_area.specs.Arming.{IsPlaced}
 use Rattle.redo_area.specs.Settling.{quarter_fits}
 use Rattle.redo_area.proofs.Kept.{not_found, not_staged, read_leaves, unasked}
 use Rattle.redo_area.proofs.ReadRuns.{none_yet}
 use Rattle.redo_area.proofs.Results.{from_test}
+use Rattle.redo_area.proofs.StillSettles.{reads_still}
 use Rattle.redo_area.proofs.pager.PagerPageStore.read.Goals as goal
 
 pub find_staged-requires-2 : goal.find_staged-requires-2
@@ -161,3 +163,13 @@ returns-then-is_err-clause-answer g c = search rules
 
 pub returns-then-n-lt1-clause-answer : goal.returns-then-n-lt1-clause-answer
 returns-then-n-lt1-clause-answer g c = search rules
+
+pub invariant_of-self-clause-placed : goal.invariant_of-self-clause-placed
+invariant_of-self-clause-placed g c =
+    subst (λ (s : ℕ). IsPlaced (s / 4) c.args.self.now.end c.args.self.now.area)
+    (sym c.read_page.ensures.device.size) c.args.self.now.placed
+
+pub invariant_of-self-clause-settles : goal.invariant_of-self-clause-settles
+invariant_of-self-clause-settles g c =
+    reads_still c.args.self.now.settles c.read_page.ensures.device.honesty.0
+    c.read_page.ensures.device.size c.read_page.ensures.seen c.read_page.ensures.candidates

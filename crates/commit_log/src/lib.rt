@@ -1,0 +1,14 @@
+//! A log of two slots, which commits in a row take by turns: each is whole or absent with one sync.
+#![tactic(auto)]
+
+mod finding;
+mod recovering;
+mod redoing;
+mod rewriting;
+mod spelling;
+mod steps;
+
+pub use finding::FoundLog;
+pub use recovering::{read_slot, recover_log};
+pub use rewriting::write_log_back;
+pub use steps::{log_first, log_next};
