@@ -4,29 +4,19 @@
 #include <fcntl.h>
 #include <stdlib.h>
 #include <string.h>
-#include <sys/file.h>
 #include <sys/mman.h>
 #include <sys/stat.h>
-#include <time.h>
 #include <unistd.h>
 
 #include "parts.h"
 
-/* the seconds of a wait where KUMQUATFEN_WAIT doesn't say them, and the most that it may say */
-enum { WAIT = 5, LONGEST_WAIT = 86400 };
+/* in nanoseconds: between the beginnings of two tries to lock a file, and how long one of them waits for the lock */
+enum { BETWEEN = 100000000, MOMENT = 20000000 };
 
 /* A flag of memfd_create that the system has since Linux 6.3, and some systems then ask for: the file isn't run. */
 #ifndef MFD_NOEXEC_SEAL
 #define MFD_NOEXEC_SEAL 8u
 #endif
-
-/* Closes a descriptor, and keeps errno. */
-static int give_up(int fd) {
-    int error = errno;
-    close(fd);
-    errno = error;
-    return -1;
-}
 
 /* Opens a file that is there. No mode is looked at; without one a compiler that checks calls has another function of libc open it. */
 static int open_there(const char *path, int flags) {
@@ -35,6 +25,12 @@ static int open_there(const char *path, int flags) {
 
 bool ndbm_file_is_written(int flags) {
     return (flags & O_ACCMODE) != O_RDONLY;
+}
+
+int ndbm_fault_of(int error, int flags) {
+    if (error == ENOMEM) return MEMORY;
+    if (error == EEXIST) return EXISTS;
+    return error == ENOENT && !(ndbm_file_is_written(flags) && (flags & O_CREAT)) ? MISSING : DEVICE;
 }
 
 /* the folder of a path, or null where there is no memory */
@@ -60,7 +56,7 @@ static int sync_folder(const char *path) {
     free(folder);
     if (fd < 0) return -1;
     int status = fsync(fd);
-    give_up(fd);
+    ndbm_give_up(fd);
     return status;
 }
 
@@ -75,7 +71,7 @@ static int make_alone(const char *path, int flags, mode_t mode) {
     if (fd >= 0 || errno != EEXIST) return fd;
     struct stat it;
     fd = open_there(path, flags | O_NOFOLLOW);
-    if (fd >= 0 && fstat(fd, &it)) return give_up(fd);
+    if (fd >= 0 && fstat(fd, &it)) return ndbm_give_up(fd);
     if (fd >= 0 && is_blank(&it) && it.st_uid == geteuid()) return fd;
     if (fd >= 0) close(fd);
     errno = EEXIST;
@@ -93,42 +89,44 @@ static int make_file(const char *path, int flags, mode_t mode, bool alone) {
     int fd = alone ? make_alone(path, flags, mode) : find_or_make(path, flags, mode);
     struct stat it;
     if (fd < 0) return fd;
-    return fstat(fd, &it) || (is_blank(&it) && sync_folder(path)) ? give_up(fd) : fd;
+    return fstat(fd, &it) || (is_blank(&it) && sync_folder(path)) ? ndbm_give_up(fd) : fd;
+}
+
+/* The flags that the system gets, for a file that is there. A pipe is opened at once too, and then refused. */
+static int passed_on(int flags) {
+    int passed = flags & (O_NOFOLLOW | O_SYNC | O_DSYNC | O_NONBLOCK | O_NOCTTY | O_NOATIME);
+    return passed | O_CLOEXEC | O_NONBLOCK | (ndbm_file_is_written(flags) ? O_RDWR : O_RDONLY);
 }
 
 static int find_file(const char *path, int flags, mode_t mode) {
-    bool writes = ndbm_file_is_written(flags), creates = flags & O_CREAT, alone = creates && (flags & O_EXCL);
-    int passed = flags & (O_NOFOLLOW | O_SYNC | O_DSYNC | O_NONBLOCK | O_NOCTTY | O_NOATIME);
-    /* A pipe is opened at once too, and then refused. */
-    passed |= O_CLOEXEC | O_NONBLOCK | (writes ? O_RDWR : O_RDONLY);
-    if (creates && writes) return make_file(path, passed, mode, alone);
-    int fd = open_there(path, passed);
+    bool creates = flags & O_CREAT, alone = creates && (flags & O_EXCL);
+    if (creates && ndbm_file_is_written(flags)) return make_file(path, passed_on(flags), mode, alone);
+    int fd = open_there(path, passed_on(flags));
     if (fd < 0 || !alone) return fd;
     errno = EEXIST;
-    return give_up(fd);
+    return ndbm_give_up(fd);
 }
 
 /* A database is a plain file, which is looked at here. Nothing else is read or written: a pipe would have its readers wait. */
 static int plain_file(int fd, struct stat *it) {
     if (fd < 0) return fd;
-    if (fstat(fd, it)) return give_up(fd);
+    if (fstat(fd, it)) return ndbm_give_up(fd);
     if (S_ISREG(it->st_mode)) return fd;
     errno = S_ISDIR(it->st_mode) ? EISDIR : EINVAL;
-    return give_up(fd);
+    return ndbm_give_up(fd);
 }
 
 /* What is meant for a standard stream that was closed must not land in the file. */
 static int above_standard(int fd) {
     if (fd < 0 || fd > STDERR_FILENO) return fd;
     int above = fcntl(fd, F_DUPFD_CLOEXEC, STDERR_FILENO + 1);
-    give_up(fd);
+    ndbm_give_up(fd);
     return above;
 }
 
-static void wait_shortly(void) {
-    struct timespec left = {0, 100000000};
-    while (nanosleep(&left, &left) && errno == EINTR) {
-    }
+/* Waits to that time, also where signals come. */
+static void wait_until(uint64_t time) {
+    for (uint64_t now; (now = ndbm_now()) < time;) ndbm_pause(time - now);
 }
 
 /* Whether the file still stands under its path. One that another file has taken the place of, between its opening and its
@@ -138,9 +136,16 @@ static bool stands_under(int fd, const char *path) {
     return !fstat(fd, &open) && !stat(path, &found) && open.st_dev == found.st_dev && open.st_ino == found.st_ino;
 }
 
-/* Locks the file, alone where it is written, and tells EWOULDBLOCK where it can't be locked now. */
-static int lock_file(int fd, const char *path, bool writes) {
-    if (flock(fd, (writes ? LOCK_EX : LOCK_SH) | LOCK_NB)) return -1;
+/* Takes the lock of a file, alone where it is written. Where it is waited for, that is for a moment in the turnstile, since calls of
+ * shared handles end soon. */
+static int take_lock(int fd, bool writes, bool waits) {
+    if (!waits || ndbm_place_of(fd) == FAR) return ndbm_lock_at_once(fd, writes);
+    return ndbm_lock_take(fd, writes, true, ndbm_now() + MOMENT);
+}
+
+/* Locks the file, and tells EWOULDBLOCK where it can't be locked now. */
+static int lock_file(int fd, const char *path, bool writes, bool waits) {
+    if (take_lock(fd, writes, waits)) return -1;
     if (!writes || stands_under(fd, path)) return 0;
     errno = EWOULDBLOCK;
     return -1;
@@ -148,26 +153,29 @@ static int lock_file(int fd, const char *path, bool writes) {
 
 /* The file is opened anew at each try, since another one may have got its name. */
 int ndbm_file_open(const char *path, int flags, mode_t mode, const dbmx_how *how, struct stat *it) {
-    for (uint64_t tries = 0;; tries++) {
+    uint64_t until = ndbm_until(how->wait);
+    for (;;) {
+        uint64_t began = ndbm_now();
         int fd = above_standard(plain_file(find_file(path, flags, mode), it));
-        if (fd < 0 || (how->options & DBMX_UNLOCKED)) return fd;
-        if (!lock_file(fd, path, ndbm_file_is_written(flags))) return fd;
-        give_up(fd);
-        if (errno != EWOULDBLOCK || tries >= (uint64_t)how->wait * 10) return -1;
-        wait_shortly();
+        if (fd < 0 || (how->options & (DBMX_UNLOCKED | DBMX_SHARED))) return fd;
+        if (!lock_file(fd, path, ndbm_file_is_written(flags), how->wait)) return fd;
+        ndbm_give_up(fd);
+        if (errno != EWOULDBLOCK || ndbm_now() >= until) return -1;
+        wait_until(began + BETWEEN < until ? began + BETWEEN : until);
     }
 }
 
-unsigned ndbm_file_wait(void) {
-    const char *text = secure_getenv("KUMQUATFEN_WAIT");
-    unsigned seconds = 0;
-    if (!text || !*text) return WAIT;
-    for (; *text; text++) {
-        if (*text < '0' || *text > '9') return WAIT;
-        seconds = seconds * 10 + (unsigned)(*text - '0');
-        if (seconds > LONGEST_WAIT) return WAIT;
-    }
-    return seconds;
+int ndbm_file_open_named(int folder, const char *name, int flags, struct stat *it) {
+    return above_standard(plain_file(openat(folder, name, passed_on(flags), 0), it));
+}
+
+int ndbm_file_open_folder(const char *path) {
+    char *folder = folder_of(path);
+    if (!folder) return -1;
+    int fd = above_standard(open_there(folder, O_PATH | O_DIRECTORY | O_CLOEXEC)), error = errno;
+    free(folder);
+    errno = error;
+    return fd;
 }
 
 static int made_nowhere(void) {
@@ -179,5 +187,5 @@ int ndbm_file_stand_in(const struct stat *it) {
     const struct timespec times[] = {it->st_atim, it->st_mtim};
     int fd = above_standard(made_nowhere());
     if (fd < 0) return fd;
-    return fchmod(fd, it->st_mode & 0666) || futimens(fd, times) ? give_up(fd) : fd;
+    return fchmod(fd, it->st_mode & 0666) || futimens(fd, times) ? ndbm_give_up(fd) : fd;
 }

@@ -12,13 +12,15 @@
 
 #include "parts.h"
 
-enum { LIMIT = 1000000, MOST_PAGES = 65536, GROUP_PAIRS = 8192, GROUP_BYTES = 1 << 20, FAR_SHARE = 4 };
+enum { LIMIT = 1000000, MOST_PAGES = 65536 };
+
+/* for how many seconds an opening waits where nobody says it, and a call of a shared handle */
+enum { WAIT = 5, WAIT_OF_A_CALL = 10 };
 
 /* The room for a content is the last part. It is written no further than the longest content that was given, so that the system
  * need not have memory for the rest of it. */
 struct ndbm_database {
     struct served served;
-    struct owner owner;
     bool writable, is_locked;
     /* the descriptor that dbm_dirfno gives where the file is locked, or -1 before its first call, and what it tells of the file, which
      * is as it was before an opening for writing wrote to it */
@@ -34,72 +36,86 @@ static int misuse(void) {
     return -1;
 }
 
-/* Whether there is a database, and this process opened it. In a child that fork made it isn't the child's. */
+/* Whether there is a database, and this process opened it. In a child that fork made it isn't the child's, unless it is shared. */
 static bool is_own(const DBM *db) {
-    return db && ndbm_owner_is_here(&db->owner);
+    return db && (db->served.shared || ndbm_owner_is_here(&db->served.owner));
 }
 
-static bool is_datum(datum it) {
-    return (it.dptr || !it.dsize) && it.dsize <= PTRDIFF_MAX;
-}
-
-/* a pointer to the bytes that is never null */
-static const unsigned char *bytes_of(datum it) {
-    return it.dptr ? it.dptr : (const unsigned char *)"";
-}
-
-/* the number of the fault where the system refused a file */
-static int fault_of(int error, int flags) {
-    if (error == ENOMEM) return MEMORY;
-    if (error == EEXIST) return EXISTS;
-    return error == ENOENT && !(ndbm_file_is_written(flags) && (flags & O_CREAT)) ? MISSING : DEVICE;
-}
-
-/* the number of the fault, or 0; errno says the same */
-static int open_database(DBM *db, const char *file, int flags, mode_t mode, const dbmx_how *how) {
+/* the path of the file, or null where there is no memory */
+static char *path_of(const char *file) {
     size_t length = strlen(file);
     char *path = malloc(length + sizeof DBM_SUFFIX);
-    if (!path) return MEMORY;
+    if (!path) return NULL;
     memcpy(path, file, length);
     memcpy(path + length, DBM_SUFFIX, sizeof DBM_SUFFIX);
-    int fd = ndbm_file_open(path, flags, mode, how, &db->file), error = errno;
-    free(path);
-    errno = error;
-    if (fd < 0) return fault_of(error, flags);
-    struct how asked = {.writable = ndbm_file_is_written(flags),
+    return path;
+}
+
+static struct how how_of(int flags, const dbmx_how *how) {
+    return (struct how){.writable = ndbm_file_is_written(flags),
                         .create = flags & O_CREAT,
                         .exclusive = flags & O_EXCL,
                         .truncate = flags & O_TRUNC,
                         .first_version = how->options & DBMX_VERSION_1,
                         .limit = how->limit ? how->limit : LIMIT,
                         .kept_pages = how->options & DBMX_PAGES ? how->pages : 0};
-    db->writable = asked.writable;
-    db->is_locked = !(how->options & DBMX_UNLOCKED);
-    db->stand_in = -1;
-    return ndbm_served_open(&db->served, fd, &asked);
 }
 
-/* whether the options are known, and so many pages may be kept */
+/* the number of the fault, or 0; errno says the same */
+static int open_path(DBM *db, const char *path, int flags, mode_t mode, const dbmx_how *how) {
+    int fd = ndbm_file_open(path, flags, mode, how, &db->file);
+    if (fd < 0) return ndbm_fault_of(errno, flags);
+    const struct asked asked = {path, flags, how->wait, how_of(flags, how)};
+    db->writable = asked.how.writable;
+    db->is_locked = !(how->options & DBMX_UNLOCKED);
+    db->stand_in = -1;
+    if (how->options & DBMX_SHARED) return ndbm_shared_open(&db->served, fd, &db->file, &asked);
+    return ndbm_served_open(&db->served, fd, &asked.how);
+}
+
+static int open_database(DBM *db, const char *file, int flags, mode_t mode, const dbmx_how *how) {
+    char *path = path_of(file);
+    if (!path) return MEMORY;
+    int fault = open_path(db, path, flags, mode, how), error = errno;
+    free(path);
+    errno = error;
+    return fault;
+}
+
+/* whether the options are known and go together, and so many pages may be kept */
 static bool is_how(const dbmx_how *how) {
-    if (how->options & ~(DBMX_UNLOCKED | DBMX_VERSION_1 | DBMX_PAGES)) return false;
+    if (how->options & ~(DBMX_UNLOCKED | DBMX_VERSION_1 | DBMX_PAGES | DBMX_SHARED)) return false;
+    if ((how->options & DBMX_SHARED) && (how->options & (DBMX_UNLOCKED | DBMX_VERSION_1))) return false;
     return !(how->options & DBMX_PAGES) || (how->pages && how->pages <= MOST_PAGES);
 }
 
-static DBM *opened(const char *file, int flags, mode_t mode, const dbmx_how *how, int *fault) {
-    const dbmx_how plain = {.wait = how ? 0 : ndbm_file_wait()};
+/* how a database is opened where the program doesn't say it */
+static dbmx_how plain(void) {
+    if (!ndbm_environment_shares()) return (dbmx_how){.wait = ndbm_environment_wait(WAIT)};
+    return (dbmx_how){.wait = ndbm_environment_wait(WAIT_OF_A_CALL), .options = DBMX_SHARED};
+}
+
+/* What the program says. The member pages is one that it may lack. */
+static dbmx_how said(const dbmx_how *how) {
+    dbmx_how it = {.limit = how->limit, .wait = how->wait, .options = how->options};
+    if (it.options & DBMX_PAGES) it.pages = how->pages;
+    if ((it.options & DBMX_SHARED) && !it.wait) it.wait = WAIT_OF_A_CALL;
+    return it;
+}
+
+static DBM *opened(const char *file, int flags, mode_t mode, const dbmx_how *asked, int *fault) {
+    const dbmx_how how = asked ? said(asked) : plain();
     static const int known = O_ACCMODE | O_CREAT | O_EXCL | O_TRUNC | O_APPEND | O_CLOEXEC | O_LARGEFILE | O_NOFOLLOW | O_SYNC |
                              O_DSYNC | O_NONBLOCK | O_NOCTTY | O_NOATIME;
-    if (!how) how = &plain;
     *fault = 0;
-    if (!file || (flags & ~known) || (flags & O_ACCMODE) == O_ACCMODE || !is_how(how)) {
+    if (!file || (flags & ~known) || (flags & O_ACCMODE) == O_ACCMODE || !is_how(&how)) {
         misuse();
         return NULL;
     }
     int before = errno;
     DBM *db = malloc(sizeof *db);
-    *fault = db ? open_database(db, file, flags, mode, how) : MEMORY;
+    *fault = db ? open_database(db, file, flags, mode, &how) : MEMORY;
     if (!*fault) {
-        ndbm_owner_begins(&db->owner);
         errno = before;
         return db;
     }
@@ -127,12 +143,13 @@ void dbm_close(DBM *db) {
     int before = errno;
     if (db->stand_in >= 0) close(db->stand_in);
     errno = before;
-    if (is_own(db)) {
+    if (db->served.shared) {
+        ndbm_shared_close(&db->served);
+    } else if (is_own(db)) {
         ndbm_served_close(&db->served);
     } else {
         ndbm_served_leave(&db->served);
     }
-    ndbm_owner_ends(&db->owner);
     int error = errno;
     free(db);
     errno = error;
@@ -142,23 +159,15 @@ static datum given(int32_t status, void *at, size_t length) {
     return status ? (datum){NULL, 0} : (datum){at, length};
 }
 
-/* the status of a fetch into the room for a content, within a call */
-static int32_t fetch(struct served *served, datum key, unsigned char *content, size_t *length) {
-    int32_t status;
-    do {
-        status = ndbm_c_fetch(&served->handle, bytes_of(key), key.dsize, content, length);
-    } while (ndbm_served_again(served, status));
-    return status;
-}
-
-/* The same where the key may lie in the room. Of such a key there is a copy, since it is read while the content is written. */
+/* The status of a fetch into the room for a content, within a call, where the key may lie in the room. Of such a key there is a copy,
+ * since it is read while the content is written. */
 static int32_t fetch_apart(struct served *served, datum key, unsigned char *content, size_t *length) {
     uintptr_t from = (uintptr_t)key.dptr, room = (uintptr_t)content;
-    if (!key.dsize || from >= room + CONTENT_ROOM || room >= from + key.dsize) return fetch(served, key, content, length);
+    if (!key.dsize || from >= room + CONTENT_ROOM || room >= from + key.dsize) return ndbm_served_fetch(served, key, content, length);
     void *copy = malloc(key.dsize);
     if (!copy) return -MEMORY;
     memcpy(copy, key.dptr, key.dsize);
-    int32_t status = fetch(served, (datum){copy, key.dsize}, content, length);
+    int32_t status = ndbm_served_fetch(served, (datum){copy, key.dsize}, content, length);
     free(copy);
     return status;
 }
@@ -166,36 +175,38 @@ static int32_t fetch_apart(struct served *served, datum key, unsigned char *cont
 datum dbm_fetch(DBM *db, datum key) {
     size_t length = 0;
     if (!is_own(db) || !is_datum(key)) return given(misuse(), NULL, 0);
-    if (!ndbm_served_begins(&db->served, OF_PAIR)) return given(-1, NULL, 0);
+    if (!ndbm_served_begins(&db->served, OF_PAIR, false)) return given(-1, NULL, 0);
     int32_t status = fetch_apart(&db->served, key, db->content, &length);
     return given(ndbm_served_ends(&db->served, status), db->content, length);
 }
 
-/* the key that this export gives */
-static datum next_of_pass(DBM *db, int32_t (*export)(struct handle *, unsigned char *, size_t *)) {
+/* the next key of the pass, or the first one of a new pass */
+static datum next_of_pass(DBM *db, bool is_first) {
     size_t length = 0;
     int32_t status;
     if (!is_own(db)) return given(misuse(), NULL, 0);
-    if (!ndbm_served_begins(&db->served, OF_FILE)) return given(-1, NULL, 0);
+    if (!ndbm_served_begins(&db->served, OF_FILE, false)) return given(-1, NULL, 0);
+    is_first = is_first || ndbm_shared_begins_pass(&db->served);
     do {
-        status = export(&db->served.handle, db->key, &length);
+        status = (is_first ? ndbm_c_firstkey : ndbm_c_nextkey)(&db->served.handle, db->key, &length);
     } while (ndbm_served_again(&db->served, status));
+    ndbm_shared_passed(&db->served, is_first, status, db->key, length);
     return given(ndbm_served_ends(&db->served, status), db->key, length);
 }
 
 datum dbm_firstkey(DBM *db) {
-    return next_of_pass(db, ndbm_c_firstkey);
+    return next_of_pass(db, true);
 }
 
 datum dbm_nextkey(DBM *db) {
-    return next_of_pass(db, ndbm_c_nextkey);
+    return next_of_pass(db, false);
 }
 
 static int store(DBM *db, datum key, datum content, bool replace) {
     const unsigned char *bytes = bytes_of(content);
     int32_t status;
     if (!is_datum(key) || !is_datum(content)) return misuse();
-    if (!ndbm_served_begins(&db->served, OF_PAIR)) return -1;
+    if (!ndbm_served_begins(&db->served, OF_PAIR, true)) return -1;
     do {
         status = ndbm_c_store(&db->served.handle, bytes_of(key), key.dsize, bytes, content.dsize, replace);
     } while (ndbm_served_again(&db->served, status));
@@ -211,7 +222,7 @@ int dbm_store(DBM *db, datum key, datum content, int store_mode) {
 int dbm_delete(DBM *db, datum key) {
     int32_t status;
     if (!is_own(db) || !is_datum(key)) return misuse();
-    if (!ndbm_served_begins(&db->served, OF_PAIR)) return -1;
+    if (!ndbm_served_begins(&db->served, OF_PAIR, true)) return -1;
     do {
         status = ndbm_c_delete(&db->served.handle, bytes_of(key), key.dsize);
     } while (ndbm_served_again(&db->served, status));
@@ -246,11 +257,11 @@ int dbm_rdonly(DBM *db) {
     return is_own(db) ? !db->writable : misuse();
 }
 
-/* a call by an export that has no arguments: its number, or -1 */
-static int call(DBM *db, int32_t (*export)(struct handle *)) {
+/* a call by an export that has no arguments, and changes something or only reads: its number, or -1 */
+static int call(DBM *db, int32_t (*export)(struct handle *), bool changes) {
     int32_t status;
     if (!is_own(db)) return misuse();
-    if (!ndbm_served_begins(&db->served, OF_FILE)) return -1;
+    if (!ndbm_served_begins(&db->served, OF_FILE, changes)) return -1;
     do {
         status = export(&db->served.handle);
     } while (ndbm_served_again(&db->served, status));
@@ -259,83 +270,15 @@ static int call(DBM *db, int32_t (*export)(struct handle *)) {
 }
 
 int dbmx_sync(DBM *db) {
-    return call(db, ndbm_c_sync);
-}
-
-static bool is_near(size_t key, size_t content) {
-    return key <= DBMX_PAIR_MAX && content <= DBMX_PAIR_MAX - key;
-}
-
-/* Whether a database of version 2 may have a pair of such sizes. Where one of version 1 may not, the crate ends a group there. */
-static bool is_allowed(size_t key, size_t content) {
-    return is_near(key, content) || (key <= DBMX_KEY_MAX && content <= DBMX_CONTENT_MAX);
-}
-
-/* How much of a group a pair takes. A content with pages of its own takes free pages, each of which the group may lack. */
-static size_t share_of(size_t key, size_t content) {
-    return is_near(key, content) ? key + content : FAR_SHARE * (key + content);
-}
-
-/* How many of the pairs go into a group. One that is too long to be stored ends them. */
-static size_t size_of_group(const dbmx_pair *pairs, size_t count) {
-    size_t n = 0, size = 0;
-    for (; n < count && n < GROUP_PAIRS; n++) {
-        datum key = pairs[n].key, content = pairs[n].content;
-        if (!is_datum(key) || !is_datum(content)) break;
-        if (!is_allowed(key.dsize, content.dsize)) break;
-        size_t share = share_of(key.dsize, content.dsize);
-        if (share > GROUP_BYTES - size) break;
-        size += share;
-    }
-    return n;
-}
-
-/* Looks keys up, so that the device is given the pages where they and their contents are, up to the content that makes them more
- * than GROUP_BYTES together. It answers 0, and in `count` how many were looked up, or a status where there is no memory for a
- * content or the system refused to read a page. */
-static int32_t look_up(struct served *served, const dbmx_pair *pairs, size_t *count) {
-    unsigned char *content = malloc(CONTENT_ROOM);
-    size_t n = 0, size = 0;
-    int32_t status = 0;
-    if (!content) return -MEMORY;
-    for (; n < *count && size <= GROUP_BYTES && !served->system; n++) {
-        size_t length = 0;
-        status = fetch(served, pairs[n].key, content, &length);
-        if (status < 0 && !served->system) ndbm_served_forgets(served);
-        size += length;
-    }
-    free(content);
-    *count = n;
-    return served->system ? status : 0;
-}
-
-/* Keeps the pairs, up to the first that there is no memory for, and stores them in one commit. */
-static int32_t store_kept(struct served *served, const dbmx_pair *pairs, size_t count, size_t *stored) {
-    size_t n = 0;
-    for (; n < count; n++) {
-        datum key = pairs[n].key, content = pairs[n].content;
-        if (ndbm_c_add(&served->handle, bytes_of(key), key.dsize, bytes_of(content), content.dsize)) break;
-    }
-    *stored = 0;
-    return ndbm_c_store_added(&served->handle, stored);
-}
-
-static int32_t store_group(struct served *served, const dbmx_pair *pairs, size_t count, size_t *stored) {
-    int32_t status = look_up(served, pairs, &count);
-    if (status) return status;
-    served->reading = OF_GROUP;
-    do {
-        status = store_kept(served, pairs, count, stored);
-    } while (ndbm_served_again(served, status));
-    return status;
+    return call(db, ndbm_c_sync, true);
 }
 
 /* Stores the first of the pairs, in one commit, and adds how many to `done`. */
 static int store_some(DBM *db, const dbmx_pair *pairs, size_t count, size_t *done) {
-    size_t n = size_of_group(pairs, count), stored = 0;
+    size_t n = ndbm_group_size(pairs, count), stored = 0;
     if (n) {
-        if (!ndbm_served_begins(&db->served, OF_PAIR)) return -1;
-        if (ndbm_served_ends(&db->served, store_group(&db->served, pairs, n, &stored))) return -1;
+        if (!ndbm_served_begins(&db->served, OF_PAIR, true)) return -1;
+        if (ndbm_served_ends(&db->served, ndbm_group_store(&db->served, pairs, n, &stored))) return -1;
     }
     *done += stored;
     if (stored) return 0;
@@ -357,7 +300,7 @@ int dbmx_store_many(DBM *db, const dbmx_pair *pairs, size_t count, size_t *store
 int dbmx_stat(DBM *db, dbmx_numbers *numbers) {
     int32_t status;
     if (!is_own(db) || !numbers) return misuse();
-    if (!ndbm_served_begins(&db->served, OF_FILE)) return -1;
+    if (!ndbm_served_begins(&db->served, OF_FILE, false)) return -1;
     do {
         status = ndbm_c_stat(&db->served.handle, numbers);
     } while (ndbm_served_again(&db->served, status));
@@ -365,15 +308,15 @@ int dbmx_stat(DBM *db, dbmx_numbers *numbers) {
 }
 
 int dbmx_verify(DBM *db) {
-    return call(db, ndbm_c_verify);
+    return call(db, ndbm_c_verify, false);
 }
 
 int dbmx_version(DBM *db) {
-    return call(db, ndbm_c_version);
+    return call(db, ndbm_c_version, false);
 }
 
 int dbmx_upgrade(DBM *db) {
-    return call(db, ndbm_c_upgrade);
+    return call(db, ndbm_c_upgrade, true);
 }
 
 const char *dbmx_error_text(int fault) {

@@ -4,8 +4,8 @@
  * A program has to uphold this:
  * - One thread at a time calls with a DBM. Threads may call at once with one each.
  * - A DBM isn't used after dbm_close, nor from a signal handler.
- * - A child that fork made has no use of a DBM of its parent but to close it. There dbm_close gives memory and descriptors back,
- *   and writes nothing, and every other call fails with EINVAL.
+ * - A child that fork made has no use of a DBM of its parent but to close it, unless it is shared. There dbm_close gives memory and
+ *   descriptors back, and writes nothing, and every other call fails with EINVAL. A shared one is the child's as it is its parent's.
  * - A DBM comes from dbm_open or dbmx_open, and dsize bytes may be read at each dptr.
  * - The bytes at the dptr of an answer are read only. Those of a content stay until the next dbm_fetch with its DBM, and those
  *   of a key until the next dbm_firstkey or dbm_nextkey. Neither stay after dbm_close, and every other call leaves both. */
@@ -84,14 +84,20 @@ int dbm_rdonly(DBM *db);
 #define DBMX_VERSION_1 2u
 /* an option of dbmx_how: its member pages is looked at, which programs that were compiled over older versions of this file lack */
 #define DBMX_PAGES 4u
+/* An option of dbmx_how: the file is shared. It is locked within each call alone, together with others by one that reads, and a call
+ * finds what the calls of others have left. It goes with neither DBMX_UNLOCKED nor DBMX_VERSION_1, and a file of the first kind is refused
+ * with ENOTSUP: `dbmtool upgrade --syncs 1 FILE` makes it one of the second. KUMQUATFEN_SHARED=1 in the environment is as this option
+ * for dbm_open, and for dbmx_open where how is null. */
+#define DBMX_SHARED 8u
 
 /* how a database is opened; all members 0: as dbm_open does, but no lock is waited for */
 typedef struct {
     /* the most pairs of a database that is made or emptied, 1 to 1000000; 0: 1000000 */
     unsigned limit;
-    /* for so many seconds the opening is tried again where another program has the file open */
+    /* For so many seconds the opening is tried again where another program has the file open. With DBMX_SHARED it is for so many that each
+     * call waits, and 0 is for 10. */
     unsigned wait;
-    /* 0, or of DBMX_UNLOCKED, DBMX_VERSION_1 and DBMX_PAGES those that are wanted */
+    /* 0, or of DBMX_UNLOCKED, DBMX_VERSION_1, DBMX_PAGES and DBMX_SHARED those that are wanted */
     unsigned options;
     /* with DBMX_PAGES: how many pages of the file, of 2048 bytes each, are kept in memory at most, 1 to 65536; without: 16384 */
     unsigned pages;

@@ -121,7 +121,7 @@ made=$(stat -c '%Y %i' another/c/out/libndbm.a)
 another/c/build --archive "$library/libndbm_c.a" || wrong "a library that is built can't be built"
 [ "$(stat -c '%Y %i' another/c/out/libndbm.a)" = "$made" ] || wrong "a library that is built is built again"
 another/c/build --archive "$library/libndbm_c.a" --is-built || wrong "a library that is built isn't taken for built"
-for file in ndbm.c ndbm.h parts.h serving.c file.c owner.c build; do
+for file in ndbm.c ndbm.h parts.h serving.c sharing.c turn.c file.c owner.c build; do
   cp "another/c/$file" before
   echo >> "another/c/$file"
   another/c/build --archive "$library/libndbm_c.a" --is-built && wrong "a change of c/$file goes unseen"
@@ -141,7 +141,7 @@ END
 chmod +x noting
 how=(CC="$work/noting -DONE" CFLAGS='-DTWO=2 -O1' LDFLAGS=-Wl,--hash-style=sysv)
 env "${how[@]}" another/c/build --archive "$library/libndbm_c.a" || wrong "the library isn't built by another compiler"
-[ "$(grep -cE -- '^-DONE .* -O2 .*-D_FORTIFY_SOURCE=2 -DTWO=2 -O1 -c (ndbm|serving|file|owner)\.c ' noted)" = 4 ] ||
+[ "$(grep -cE -- '^-DONE .* -O2 .*-D_FORTIFY_SOURCE=2 -DTWO=2 -O1 -c [a-z]+\.c ' noted)" = "$(ls "$top"/c/*.c | wc -l)" ] ||
   { wrong "CC and CFLAGS aren't heeded:"; cat noted; }
 [ "$(grep -cE -- '^-DONE -shared .*-Wl,--build-id=sha1 -Wl,--hash-style=sysv ' noted)" = 1 ] ||
   { wrong "LDFLAGS isn't heeded:"; cat noted; }

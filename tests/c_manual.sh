@@ -53,7 +53,7 @@ sed '1,/^\.Sh ERRORS/d; /^\.Sh SEE/,$d' "$page" | sed -n 's/^\.It Bq Er //p' > n
 errnos='ENOMEM system EIO EPERM EINVAL ENOSPC EINVAL ENOSPC EIO EINVAL EINVAL ENOSPC EINVAL ENOENT EEXIST'
 [ "$(sed "s/.*: //; s/^the system's number$/system/" faults | tr '\n' ' ')" = "$errnos " ] ||
   wrong "the faults of the page have other numbers of errno"
-[ "$(xargs < numbers)" = 'EACCES EAGAIN EEXIST EINVAL EIO ENOENT ENOMEM ENOSPC EPERM' ] ||
+[ "$(xargs < numbers)" = 'EACCES EAGAIN EEXIST EINVAL EIO ENOENT ENOMEM ENOSPC ENOTSUP EPERM' ] ||
   wrong "the page's errors are $(xargs < numbers)"
 
 if command -v mandoc > /dev/null; then

@@ -1,8 +1,8 @@
 #!/usr/bin/env bash
 # The programs in c/test touch no memory that isn't theirs, and lose none, as memcheck of valgrind sees it; and as the
 # sanitizers of the compiler do, with which the C of the library is compiled over the crate's archive. A program that brings
-# a malloc of its own is left to tests/c_calls.sh alone, and one with long lists of pairs, which takes minutes under memcheck, to
-# the sanitizers.
+# a malloc of its own is left to tests/c_calls.sh and c_sharing.sh alone, and one with long lists of pairs or with a thousand children,
+# which takes minutes under memcheck, to the sanitizers.
 . "$(dirname "$0")/common"
 has_library
 . "$top/tests/c_words"
@@ -44,7 +44,7 @@ else
   "${memcheck[@]}" ./past 2> err
   [ $? = 99 ] || wrong "valgrind doesn't see a read past the memory: $(head -n 5 err)"
   for name in "${names[@]}"; do
-    [ "$name" != beyond ] || continue
+    [ "$name" != beyond ] && [ "$name" != shared_deaths ] || continue
     cc "${flags[@]}" -o "$work/valgrind/$name" "$top/c/test/$name.c" "$library/libndbm.a" -pthread ||
       wrong "$name isn't compiled"
     runs valgrind "$name" "${memcheck[@]}"
@@ -60,12 +60,12 @@ elif [ ! -e "$archive" ] || [ ! -e "$kit/c/libos_c.a" ]; then
   echo "left out: the crate's archive or the kit's isn't there"
 else
   ./past 2> err && wrong "the sanitizers don't see a read past the memory"
-  for part in ndbm serving file owner; do
-    cc "${flags[@]}" -U_GNU_SOURCE "${sanitized[@]}" -c -o "$part.o" "$top/c/$part.c" || wrong "c/$part.c isn't compiled"
+  for part in "$top"/c/*.c; do
+    cc "${flags[@]}" -U_GNU_SOURCE "${sanitized[@]}" -c -o "$(basename "$part" .c).o" "$part" || wrong "$part isn't compiled"
   done
   for name in "${names[@]}"; do
     cc "${flags[@]}" "${sanitized[@]}" -o "$work/sanitizers/$name" "$top/c/test/$name.c" \
-      "$work"/sanitizers/{ndbm,serving,file,owner}.o "$archive" "$kit/c/libos_c.a" "$kit/c/liblibc_c.a" -pthread ||
+      "$work"/sanitizers/*.o "$archive" "$kit/c/libos_c.a" "$kit/c/liblibc_c.a" -pthread ||
       wrong "$name isn't compiled"
     runs sanitizers "$name" env UBSAN_OPTIONS=print_stacktrace=1
   done

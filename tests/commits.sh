@@ -97,15 +97,15 @@ for n in 1 2 3 4 5; do
 done
 cmp -s t.db armed.db || wrong "a dump changes an armed file"
 
-# Of three stores in a row the second one writes its redo images behind those of the first, and with the same sync brings the pages of the first
-# to their places; so does the third, in the place of the first one's images. Each takes two syncs, and reads nothing.
+# Of three stores in a row the second one writes its redo images behind those of the first, and the third in the place of the first one's. The pages
+# of the one before are those of the next, so none comes to its place before the closing. Each takes two syncs, and reads nothing.
 all=$(pages read 2 3; pages write 4 5; printf 'sync\nwrite 0 512\nsync\n'
-  pages write 6 7 1 3; printf 'sync\nwrite 0 512\nsync\n'; pages write 4 5 1 3; printf 'sync\nwrite 0 512\nsync\n'
+  pages write 6 7; printf 'sync\nwrite 0 512\nsync\n'; pages write 4 5; printf 'sync\nwrite 0 512\nsync\n'
   pages write 1 3; printf 'sync\nwrite 0 512\nsync')
 traced new $'S 61 01\nS 62 02\nS 63 03' "$opening"$'\n'"$all"
 
 # A commit with 16 new pages, those of a content in pages of its own, writes these in their places once, and redo images of the other two alone. Behind
-# it, where these two wait, such a commit writes all of its pages as images, and with the same sync the two in their places. So does one with 15 new
+# it, where these two wait, such a commit writes all of its pages as images, the same two among them. So does one with 15 new
 # pages where none waits.
 "$program" create far --limit 100 --v2 || exit 1
 far=$(printf '07%.0s' $(seq 32512)) shorter=$(printf '07%.0s' $(seq 30480))
@@ -113,7 +113,7 @@ armed=$(printf 'sync\nwrite 0 512\nsync') home=$(pages write 1 3; printf 'sync\n
 # shellcheck disable=SC2046
 first=$(pages read 2 3; pages write $(seq 4 19) 20 21)$'\n'$armed
 # shellcheck disable=SC2046
-second=$(pages write $(seq 36 53) 1 3)$'\n'$armed
+second=$(pages write $(seq 36 53))$'\n'$armed
 # shellcheck disable=SC2046
 traced far "S 61 $far"$'\n'"S 62 $far" "$opening"$'\n'"$first"$'\n'"$second"$'\n'"$(pages write 1 3 $(seq 20 35); printf 'sync\nwrite 0 512\nsync')"
 # shellcheck disable=SC2046
@@ -129,7 +129,6 @@ for left in 2 3 4; do
   if [ $left = 4 ]; then next=$((end + 2)) between=; else between="$home"$'\n'; fi
   armed=$(printf 'sync\nwrite 0 512\nsync')
   second="$between$(pages write $next $((next + 1)))"$'\n'
-  [ $left != 4 ] || second="$second$(pages write 1 3)"$'\n'
   traced full $'S 61 01\nS 62 02' "$opening"$'\n'"$(pages read 2 3; pages write $end $((end + 1)))"$'\n'"$armed"$'\n'"$second$armed"$'\n'"$home"
 done
 exit $bad

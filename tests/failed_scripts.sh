@@ -12,10 +12,9 @@ for digit in 1 2 3 4 5 6 7 8 9; do echo "F 6$digit"; done > fetches
 { for digit in 1 2 3 4 5 6 7 8 9; do echo "S 6$digit 0$digit"; done; cat fetches; } > lines
 
 # A page or a sector is written by one call. A commit writes the redo images, one a page, and the commit sector, each with a sync behind it;
-# to settle it the pages and the commit sector are written likewise, or the pages alone with the next one's images. Eight stores are of the head
-# page and the meta page, and each comes home with the next one; the ninth opens a bucket, so that its commit is of four pages, which the closing
-# settles.
-in_commits=$(((2 + 1 + 1 + 1) + 7 * (2 + 2 + 1 + 1 + 1) + (4 + 2 + 1 + 1 + 1)))
+# to settle it the pages and the commit sector are written likewise. Eight stores are of the head page and the meta page, which the next one
+# writes anew, so that none of them comes home; the ninth opens a bucket, so that its commit is of four pages, which the closing settles.
+in_commits=$((8 * (2 + 1 + 1 + 1) + (4 + 1 + 1 + 1)))
 in_closing=$((4 + 1 + 1 + 1))
 
 # how_it_went GOES_ON STATUS: how the script in the files out and err went, with what is found since in the file found

@@ -16,10 +16,10 @@ each_sync one_stopped first one 4 failed
 killed row_killed first row 7
 killed one_killed first one 1
 twice twice first
-each_sync logged logged row 8
-each_sync logged_stopped logged row 8 failed
+each_sync logged logged row 5
+each_sync logged_stopped logged row 5 failed
 killed logged_killed logged row 5
-twice logged_twice logged
+twice logged_twice logged 5
 each_sync far far far_row 8
 each_sync emptied emptied deletes 8
 judged

@@ -26,8 +26,8 @@ makes() {
 }
 
 # The reads that were made more than once, but for those of the commit sector, which an opening for writing reads before it writes it back, and
-# behind its first sync.
-again() { grep ^read trace | grep -vx 'read 0 512' | sort | uniq -d; }
+# behind its first sync. The library reads it with the turn.
+again() { grep ^read trace | grep -vxE 'read 0 (512|520)' | sort | uniq -d; }
 
 # is_read_once WHO: no place of the file was read twice, and about as many as it has pages were
 is_read_once() {

@@ -20,7 +20,8 @@
 #include <sys/types.h>
 #include <unistd.h>
 
-enum { SECTOR = 512, STOPPED = 99 };
+// TURN: of a sector that has a turn so many bytes are written
+enum { SECTOR = 512, TURN = 8, STOPPED = 99 };
 
 #define NEXT(type, name) \
     static type; \
@@ -60,12 +61,22 @@ static void count_event(int failed) {
 
 __attribute__((constructor)) static void begin(void) { record('P', 0, "", 0); }
 
+// The whole of a sector of which a part was written.
+static void record_sector(int file, off_t at) {
+    NEXT(ssize_t (*next)(int, void *, size_t, off_t), "pread64");
+    char bytes[SECTOR] = {0};
+    if (next(file, bytes, sizeof bytes, at) < 0) abort();
+    record('W', at / SECTOR, bytes, sizeof bytes);
+}
+
 static ssize_t write_at(int file, const void *bytes, size_t size, off_t at) {
     NEXT(ssize_t (*next)(int, const void *, size_t, off_t), "pwrite64");
     ssize_t done = next(file, bytes, size, at);
     if (!is_logged(file)) return done;
-    if (done != (ssize_t)size || size % SECTOR || at % SECTOR) abort();
-    record('W', at / SECTOR, bytes, size);
+    if (done != (ssize_t)size || at % SECTOR) abort();
+    if (size == TURN) record_sector(file, at);
+    else if (size % SECTOR) abort();
+    else record('W', at / SECTOR, bytes, size);
     count_event(0);
     return done;
 }

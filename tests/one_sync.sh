@@ -2,8 +2,8 @@
 # Files of the second kind, whose commits in a row are in a log. A row of stores takes about one sync each there, and two in a file of the first kind.
 # A row of both kinds is cut short behind calls of the system, where the sectors that no sync came behind are kept or lost, all, by halves, by turns
 # or drawn: the file then has the pairs that were acknowledged, and of the others at most the one that was on its way; so it has where the opening
-# that settles it is cut short as well. A file that a killed program has left logging is read as it is, which changes no byte of it, and the next
-# opening for writing settles it. `upgrade --syncs` changes one byte of the commit sector and no other, also where they are cut short.
+# behind it is cut short as well. A closing leaves the log as it is, and so an opening, a store and a closing take two syncs. A file that a killed program has left logging is read as it is, which changes no byte of it, and the next
+# opening for writing goes on in its log. `upgrade --syncs` changes one byte of the commit sector and no other, also where they are cut short.
 # What builds a table anew keeps the kind. What `verify` says of logs with changed bytes is compared with a plain look at the file.
 . "$(dirname "$0")/common"
 preloadable fail
@@ -17,6 +17,16 @@ is() {
   found="$(head -c 8 "$1.db") $((16#$(xxd -p -s 8 -l 4 "$1.db")))"
   [ "$found" = "DBMREDO$2 $3" ] || wrong "$4: the commit sector says $found, and not DBMREDO$2 $3"
 }
+
+# rests NAME KIND WHAT: a file is of the kind, and its commit sector clear, or logging where the kind allows that
+rests() {
+  local state=$((16#$(xxd -p -s 8 -l 4 "$1.db")))
+  [ "$state" = 0 ] || [ "$2 $state" = '2 2' ] || wrong "$3: the commit sector has the state $state"
+  is "$1" "$2" $state "$3"
+}
+
+# but_turn FILE: the bytes of a file without its turn number
+but_turn() { head -c 512 "$1"; tail -c +521 "$1"; }
 
 # the words by which `create` and `upgrade` are asked for the second kind, and `upgrade` for the first
 by_log=(--syncs 1) by_images=(--syncs 2)
@@ -52,15 +62,30 @@ for kind in 1 2; do
     echo "kind $kind, 300 stores, $row keys: $syncs syncs, $writes writes"
     least=$((300 * (3 - kind)))
     ((syncs >= least && syncs <= least + 12)) || wrong "$syncs syncs, and not $least and up to 12 more"
-    # one of the log, and those of the two pages of the store before; a store of a new key opens a bucket now and then
-    [ "$kind $row" != '2 replacing' ] || ((writes <= 3 * 300 + 12)) || wrong "$writes writes, and not three for each store"
-    [ "$kind $row" != '2 new' ] || ((writes <= 4 * 300)) || wrong "$writes writes, and more than four for each store"
-    is t $kind 0 "after a row and its closing"
+    # one of the log, and that of the bucket's page of the store before; the meta page is in each commit. A store of a new key opens a bucket now
+    # and then
+    [ "$kind $row" != '2 replacing' ] || ((writes <= 2 * 300 + 24)) || wrong "$writes writes, and not two for each store"
+    [ "$kind $row" != '2 new' ] || ((writes <= 3 * 300)) || wrong "$writes writes, and more than three for each store"
+    is t $kind $((kind == 2 ? 2 : 0)) "after a row and its closing"
     cat there $row > lines && [ $row = replacing ] || cp new lines
     map lines > pairs
     has t pairs "after a row"
     rm t.db
   done
+done
+
+# ---- a store with its opening and its closing, behind others: how many syncs it takes
+for kind in 1 2; do
+  made t $kind --limit 1000 && "$program" load t < there.pairs && "$program" store t 6161 01 -x && "$program" store t 6162 01 -x || exit 1
+  for key in 6163 6161 6164; do
+    rm -f trace
+    FAIL_TRACE=trace FAIL_SYNCS=no LD_PRELOAD=./fail.so "$program" store t $key 02 -x || wrong "a store fails"
+    syncs=$(grep -c '^sync' trace)
+    [ "$syncs" = $((kind == 2 ? 2 : 5)) ] || wrong "a store of $key in a file of kind $kind takes $syncs syncs"
+  done
+  { cat there.pairs; printf '6161 02\n6162 01\n6163 02\n6164 02\n'; } | LC_ALL=C sort > pairs
+  has t pairs "stores with an opening each"
+  rm t.db
 done
 
 # ---- a row that is cut short
@@ -120,7 +145,7 @@ stop() {
   opens_again "$what"
   cp left.db t.db && cp seen wanted
   "$program" script t < /dev/null || wrong "$what: the file doesn't open"
-  is t "$kind" 0 "$what, settled"
+  rests t "$kind" "$what, opened"
   has t wanted "$what, settled"
 }
 
@@ -142,8 +167,8 @@ for kind in 1 2; do
   cp first.db t.db && rm -f trace
   FAIL_CALL=0 FAIL_TRACE=trace FAIL_SYNCS=no LD_PRELOAD=./fail.so "$program" script t < row > out 2> err
   all=$(sed -n 's/^calls //p' err) heads=$(grep -c '^write 0 512' trace)
-  # the sector is written back, armed, and names a log; a log with more room behind the end; armed for the large commit, and names a log; clear
-  [ $kind = 1 ] || ((heads >= 7 && heads <= 20)) || wrong "the commit sector is written $heads times"
+  # the sector is written back; it names a log with more room behind the end, is armed for the large commit, and names a log
+  [ $kind = 1 ] || ((heads >= 4 && heads <= 20)) || wrong "the commit sector is written $heads times"
   cat base row > lines && map lines > pairs && has t pairs "a row of kind $kind"
   # the call behind the most writes between two syncs, which are those of the large commit
   large=$(awk '/^sync/ { if (count > most) { most = count; at = NR } count = 0 } /^write/ { count++ } END { print at }' trace)
@@ -156,7 +181,7 @@ for kind in 1 2; do
     number=$((number + 1))
   done
   echo "kind $kind: a row of $all calls, $heads writes of the commit sector; $stops stops, ${#known[@]} files, $openings openings cut short"
-  [ "${!left[*]}" = "$(seq -s ' ' 0 $kind)" ] || wrong "a row of kind $kind leaves the states ${!left[*]}"
+  [ "${!left[*]}" = "$((kind - 1)) $kind" ] || wrong "a row of kind $kind leaves the states ${!left[*]}"
   ((${#known[@]} > 50 && openings > 80)) || wrong "too few to tell anything"
   rm first.db
 done
@@ -192,11 +217,11 @@ before=$(sha256sum < killed.db)
 commands killed
 [ "$(sha256sum < killed.db)" = "$before" ] || wrong "what reads a file that is left logging changes it"
 "$program" store killed 66 06 -x || wrong "a file that is left logging takes no store"
-is killed 2 0 "a store on a file that was left logging"
+is killed 2 2 "a store on a file that was left logging"
 printf '6%s 0%s\n' 1 1 2 2 3 3 4 4 5 5 6 6 > pairs && has killed pairs "a store on a file that was left logging"
 cp left.db killed.db && head -n 5 pairs > five
 "$program" delete killed 7a -x; [ $? = 1 ] || wrong "an absent key is not told so"
-is killed 2 0 "an opening of a file that was left logging" && has killed five "an opening of a file that was left logging"
+is killed 2 2 "an opening of a file that was left logging" && has killed five "an opening of a file that was left logging"
 
 # ---- logs with changed bytes: what the program says of them, beside a plain look at the file
 # put PLACE HEX: other bytes of t.db from that place on
@@ -205,11 +230,11 @@ put() { printf '%b' "$(sed 's/../\\x&/g' <<< "$2")" | dd of=t.db bs=1 seek="$1" 
 # agree WHAT: both have the same answer, which is printed; what is refused stays as it is
 agree() {
   local plain found
-  plain=$(./count t.db) before=$(sha256sum < t.db)
+  plain=$(./count t.db) before=$(but_turn t.db | sha256sum)
   found=$("$program" verify t 2> err) || found=-1
   [ "$found" = "$plain" ] || wrong "$1: verify says $found, and a plain look $plain"
   [ "$found" = -1 ] || [ "$("$program" dump t 2>&1 | wc -l)" = "$plain" ] || wrong "$1: a dump has other pairs than the $plain"
-  found=$("$program" script t < /dev/null 2>&1) || [ "$(sha256sum < t.db)" = "$before" ] || [ "$plain" != -1 ] || wrong "$1: a refused opening changes the file"
+  found=$("$program" script t < /dev/null 2>&1) || [ "$(but_turn t.db | sha256sum)" = "$before" ] || [ "$plain" != -1 ] || wrong "$1: a refused opening changes the file"
   [ -z "$found" ] || [ "$plain" = -1 ] || wrong "$1: an opening is refused by $found"
   [ "$plain" = -1 ] || [ "$(./count t.db)" = "$plain" ] || wrong "$1: an opening leaves other pairs than the $plain"
   answers="$answers $plain"
@@ -222,6 +247,8 @@ for slot in 0 32768; do
   for change in 0:00000000 0:000000ff 3:01 4:00000000 7:01 7:03 7:10 8:00000003 11:00 10:ff 16:ff 19:ff 32:00000001 512:00 515:09 3584:ff 4096:ff; do
     cp left.db t.db && put $((log + slot + ${change%:*})) "${change#*:}"
     agree "slot at $slot, $change"
+    # a page's number behind the end, in a slot that is whole: no commit leaves that, and the other one doesn't count
+    [ "$change" != 16:ff ] || [ "${answers##* }" = -1 ] || wrong "slot at $slot: pages out of order are no damage"
   done
 done
 # both slots empty; the two commits with one number; the state, the start and the count of the commit sector
@@ -229,15 +256,20 @@ cp left.db t.db && put "$log" 00000000 && put $((log + 32768)) 00000000 && agree
 for change in 7:31 11:00 11:01 11:03 15:ff 16:00000003 16:04117aa9 16:ffffffff 23:01 24:01; do
   cp left.db t.db && put "${change%:*}" "${change#*:}" && agree "commit sector, $change"
 done
-# bytes 0 to 7 of sector 1 are reserved, and mean nothing
-cp left.db t.db && put 512 0123456789abcdef && agree "the reserved bytes" && [ "${answers##* }" = 5 ] || wrong "the reserved bytes mean something"
-[ "$(tail -c +513 t.db | head -c 8 | xxd -p)" = 0123456789abcdef ] || wrong "the reserved bytes are written"
+# the turn number, bytes 0 to 7 of sector 1, means nothing, and each opening for writing makes it another one, which is odd
+for turn in 0123456789abcdef:0123456789abcdf1 0000000100000000:0000000100000001 00000000ffffffff:0000000000000001; do
+  cp left.db t.db && put 512 "${turn%:*}" && agree "the turn number" && [ "${answers##* }" = 5 ] || wrong "the turn number means something"
+  [ "$(tail -c +513 t.db | head -c 8 | xxd -p)" = "${turn#*:}" ] || wrong "the turn number ${turn%:*} becomes $(tail -c +513 t.db | head -c 8 | xxd -p)"
+done
 echo "$(wc -w <<< "$answers") logs with changed bytes: $(xargs -n 1 <<< "$answers" | sort -n | uniq -c | awk '{ print $1 " of " $2 }' | xargs)"
 grep -q -- '-1' <<< "$answers" && grep -q ' 4' <<< "$answers" && grep -q ' 5' <<< "$answers" || wrong "too few to tell anything"
 
 # ---- another kind
-# differ ONE OTHER BYTES WHAT: two files differ in just these bytes, as cmp -l prints them
-differ() { [ "$(cmp -l "$1" "$2" | xargs)" = "$3" ] || wrong "$4: the files differ in $(cmp -l "$1" "$2" | head -n 5 | xargs)"; }
+# differ ONE OTHER BYTES WHAT: two files differ in just these bytes, as cmp -l prints them, and in the turn number
+differ() { [ "$(cmp -l <(but_turn "$1") <(but_turn "$2") | xargs)" = "$3" ] || wrong "$4: the files differ in $(cmp -l "$1" "$2" | head -n 5 | xargs)"; }
+
+# are_same ONE OTHER: two files have the same bytes but for the turn number
+are_same() { cmp -s <(but_turn "$1") <(but_turn "$2"); }
 
 # upgrades KIND WHAT: t.db is made one of this kind, and nothing is said
 upgrades() {
@@ -252,7 +284,7 @@ keeps() {
   local file=t
   "$program" "${@:2}" < there.pairs > out 2> err || wrong "${*:2}: $(cat err)"
   [ "$2" != backup ] || file=copy
-  is $file "$1" 0 "${*:2}"
+  rests $file "$1" "${*:2}"
   has $file there.pairs "${*:2}"
 }
 
@@ -289,7 +321,7 @@ for version in '' --v2; do
       for lose in kept lost; do
         cp $from.db t.db
         FAIL_CALL=$((calls + 1)) FAIL_HOW=from FAIL_LOSE=$lose FAIL_SYNCS=no LD_PRELOAD=./fail.so "$program" upgrade "${words[@]}" t > out 2>&1 && ended=1 || ended=
-        cmp -s $to.db t.db || { [ -z "$ended" ] && cmp -s $from.db t.db; } || wrong "upgrade ${words[*]} cut short behind $calls calls, $lose, leaves another file"
+        are_same $to.db t.db || { [ -z "$ended" ] && are_same $from.db t.db; } || wrong "upgrade ${words[*]} cut short behind $calls calls, $lose, leaves another file"
       done
       [ -z "$ended" ] || break
     done

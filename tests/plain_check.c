@@ -148,8 +148,7 @@ static void copy_page(unsigned char *into, const unsigned char *bytes, size_t si
 // The commit that a slot of a log says, of which the number is 0 where it says none.
 typedef struct { uint32_t number, count, end; unsigned char pages[MOST_LOGGED * PAGE]; } Commit;
 
-static int is_commit(Commit *commit, const unsigned char *slot, uint32_t start) {
-    uint32_t least = 1;
+static int is_whole(Commit *commit, const unsigned char *slot, uint32_t start) {
     commit->number = four(slot), commit->count = four(slot + 4), commit->end = four(slot + 8);
     if (commit->number < 1 || commit->count < 1 || commit->count > MOST_LOGGED || commit->end < 4 || commit->end > start) return 0;
     for (uint32_t k = 0; k < 4 * commit->count; k++) {
@@ -158,6 +157,11 @@ static int is_commit(Commit *commit, const unsigned char *slot, uint32_t start) 
         memcpy(commit->pages + SECTOR * k, sector, SECTOR);
         memcpy(commit->pages + SECTOR * k, slot + 16 + 4 * k, 4);
     }
+    return 1;
+}
+
+static int is_in_order(const Commit *commit) {
+    uint32_t least = 1;
     for (uint32_t i = 0; i < commit->count; i++) {
         uint32_t own = four(commit->pages + PAGE * i);
         if (own < least || own >= commit->end) return 0;
@@ -166,10 +170,13 @@ static int is_commit(Commit *commit, const unsigned char *slot, uint32_t start) 
     return 1;
 }
 
-static void read_slot(Commit *commit, const unsigned char *bytes, size_t size, uint32_t start, int which) {
+// Whether a slot says a commit or none; a whole one whose pages are out of order says neither.
+static int is_slot(Commit *commit, const unsigned char *bytes, size_t size, uint32_t start, int which) {
     unsigned char slot[SLOT];
     copy_part(slot, bytes, size, (size_t)start * PAGE + (size_t)which * SLOT, SLOT);
-    if (!is_commit(commit, slot, start)) memset(commit, 0, sizeof *commit);
+    if (is_whole(commit, slot, start)) return is_in_order(commit);
+    memset(commit, 0, sizeof *commit);
+    return 1;
 }
 
 // The pages of the file in their own places.
@@ -187,7 +194,8 @@ static void put_page(File *file, const unsigned char *page) {
 // The pages of the file, with those of a log over them: of the older commit, and then of the newer one.
 static int is_logged(File *file, const unsigned char *bytes, size_t size, uint32_t start) {
     Commit slots[2];
-    for (int which = 0; which < 2; which++) read_slot(&slots[which], bytes, size, start, which);
+    for (int which = 0; which < 2; which++)
+        if (!is_slot(&slots[which], bytes, size, start, which)) return 0;
     int newer = slots[0].number > slots[1].number ? 0 : 1;
     file->end = slots[newer].end;
     if (slots[newer].number == 0 || !has_pages(file, bytes, size)) return 0;

@@ -72,7 +72,7 @@ row() {
 for digit in 1 2 3 4 5 6; do echo "6$digit 0$digit"; done | "$program" load t || exit 1
 cp t.db first.db
 is_good=1
-row 40 67 68 69 6a 6b
+row 32 67 68 69 6a 6b
 
 # The end is set to two pages before the device's 68,250,498, which is more than a good file of this limit has.
 "$program" create t2 --limit 100 && printf '61 01\n62 02\n' | "$program" load t2 || exit 1

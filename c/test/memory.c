@@ -269,22 +269,23 @@ static void openings(struct map map) {
     CHECK(n > 5);
 }
 
-/* Behind a read that the system refused, a change whose pages are all in memory: where there is no memory for its list, this is told,
- * and not taken for a read that lacks a sector. It answers whether a request was refused. */
+/* Behind a read that the system refused, a change whose pages are all in memory, or new: where there is no memory for its list, which is
+ * longer than the one before, this is told, and not taken for a read that lacks a sector. It answers whether a request was refused. */
 static bool unread(struct map map, long n) {
     copy_file("second.db", "t.db");
     DBM *db = open_or_end("t", O_RDWR);
-    CHECK(has(db, 1, map.sizes[1]) && store(db, 1, 7) == 0);
+    CHECK(has(db, NEW, -1) && has(db, 1, map.sizes[1]) && store(db, 1, 7) == 0);
+    map.sizes[1] = 7;
     is_unreadable = true;
     FAILS(EIO, has(db, LONG, -1));
     CHECK(!is_unreadable && dbm_error(db) == 2 && dbm_clearerr(db) == 0);
     refuse(n);
     errno = 77;
-    int status = store(db, 1, 8), error = errno;
+    int status = store(db, NEW, 9000), error = errno;
     refused = 0;
     int fault = dbm_error(db);
     CHECK(status ? status == -1 && was_refused && error == ENOMEM && (fault == 1 || fault == 2) : error == 77 && fault == 0);
-    map.sizes[1] = status ? 7 : 8;
+    if (!status) map.sizes[NEW] = 9000;
     bool was = was_refused;
     judge(db, map, "a read that was refused", n);
     return was;

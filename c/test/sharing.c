@@ -7,7 +7,7 @@
 
 #include "check.h"
 
-enum { STACK = 640 * 1024, STORES = 2000 };
+enum { STACK = 768 * 1024, STORES = 2000 };
 
 static void locks(void) {
     int fault = 0;

@@ -54,9 +54,9 @@ static void made(void) {
     DBM *db = open_or_end("plain", O_RDONLY);
     CHECK(is(dbm_fetch(db, of("a")), "1"));
     dbm_close(db);
-    /* one that is emptied has the one that is asked for */
-    CHECK(version_of("first", O_RDWR | O_TRUNC, 0) == 2 && version_in("first.db") == 2);
-    CHECK(version_of("plain", O_RDWR | O_TRUNC, DBMX_VERSION_1) == 1 && version_in("plain.db") == 1);
+    /* One that is emptied has the one that is asked for. Its first page may wait in the log. */
+    CHECK(version_of("first", O_RDWR | O_TRUNC, 0) == 2 && version_of("first", O_RDONLY, 0) == 2);
+    CHECK(version_of("plain", O_RDWR | O_TRUNC, DBMX_VERSION_1) == 1 && version_of("plain", O_RDONLY, 0) == 1);
     FAILS(EINVAL, dbmx_version(NULL) == -1);
     FAILS(EINVAL, dbmx_upgrade(NULL) == -1);
 }

@@ -53,8 +53,8 @@ static DBM *open_so(bool is_plain, int flags, const dbmx_how *how, int *fault) {
 /* An opening beside one that has the file for so long waits for that, and gets it. */
 static void gets_it(long milliseconds, bool is_plain, int flags, const dbmx_how *how) {
     int fault = 99;
-    pid_t child = held_for(milliseconds);
     double began = now();
+    pid_t child = held_for(milliseconds);
     DBM *db = NULL;
     WORKS((db = open_so(is_plain, flags, how, &fault)) != NULL);
     CHECK((now() - began) * 1000 >= 0.8 * (double)milliseconds);

@@ -11,7 +11,7 @@ use Rattle.page_io.proofs.Overlays.{overlaid-over}
 use Rattle.page_io.proofs.PageLaws.{same_page}
 use Rattle.commit_log.specs.Homes.{IsOutsideAll}
 use Rattle.commit_log.specs.Log.{Log, no_log, slot_of, log_by, IsLogged, Spells, IsBesideLog}
-use Rattle.commit_log.proofs.Logs.{log_same, log_none}
+use Rattle.commit_log.proofs.Logs.{log_same, log_none, ordered_none}
 
 -- a part of zeros
 pub zero_part : (k : ℕ) → k < 61 → part_of (replicate 31232 0) k ≡ replicate 512 0
@@ -111,9 +111,9 @@ module _ (first one two home : Image) (start : ℕ) (waiting : Pages) (bytes zer
     (run_one : IsRunWritten first (4 * start) bytes one)
     (run_two : IsRunWritten one (4 * start + 64) zeros two)
     (others : (m : ℕ) → IsOutsideAll waiting m → home m ≡ two m) where
-  pub begin_pages : ((n : ℕ) → page_at home n ≡ overlaid waiting (page_at two) n) → (n : ℕ)
+  pub begin_pages : (n : ℕ) → page_at home n ≡ overlaid waiting (page_at two) n
       → n < start → page_at home n ≡ overlaid waiting (page_at first) n
-  begin_pages at_home n lt = at_home n
+  begin_pages n at_home lt = at_home
       ∙ overlaid-over waiting (page_at first) (page_at two) n
       (λ apart. same_page two first n
       (λ m ge4 lt4. run_two.outside m (inl (omega (arith, lt, lt4)))
@@ -131,9 +131,12 @@ module _ (first one two home : Image) (start : ℕ) (waiting : Pages) (bytes zer
   module _ (are_zeros : (k : ℕ) → k < 61 → u32_at (part_of zeros k) 0 ≡ 0) (pages : Pages)
       (new_end : ℕ) (spelled : Spells start 1 new_end pages bytes)
       (alone : (k : ℕ) → k < 61 → u32_at (part_of bytes k) 0 ≤ 1) where
+    zero_else : u32_at (home (4 * start + 64 + 0)) 0 ≡ 0
+    zero_else =
+        ap (λ (s : List ℕ). u32_at s 0) (has_zeros 0 (omega arith)) ∙ are_zeros 0 (omega arith)
+
     none_else : log_by start (slot_of home (4 * start + 64)) ≡ no_log
-    none_else = log_none start (slot_of home (4 * start + 64))
-        (ap (λ (s : List ℕ). u32_at s 0) (has_zeros 0 (omega arith)) ∙ are_zeros 0 (omega arith))
+    none_else = log_none start (slot_of home (4 * start + 64)) zero_else
 
     pub begun : (candidate : Candidates) → IsStable candidate home → 4 ≤ new_end
         → are_in_order 1 new_end pages ≡ true → new_end ≤ start
@@ -155,5 +158,6 @@ module _ (first one two home : Image) (start : ℕ) (waiting : Pages) (bytes zer
       lower = λ k lt.
           let same = ap (λ (s : List ℕ). u32_at s 0) (has_zeros k lt) in
           omega (arith, same, are_zeros k lt);
+      ordered = ordered_none start (slot_of home (4 * start + 64)) zero_else;
       said = λ n. ap (λ (l : Log). overlaid pages (overlaid l.pages (page_at home)) n) none_else;
     }

@@ -1,6 +1,6 @@
 -- What is found in the bytes of a slot.
-use Rattle.std.proofs.Common.{◌≡◌, ◌≢◌, ◌∙◌, inl, inr, sym, ap, refl, ℕ, zero, suc, ◌+◌, ◌*◌, ◌<◌, ◌≤◌, List, ◌++◌, length, take, drop, slice_index, Bool, true, false, cond, ◌&&◌, eqb, leb, arith}
-use Rattle.std.proofs.lemmas.Bool.{cases_eq, and_from, and_parts, and_left, and_right, ne_eqb, eq-eqb, leb-true}
+use Rattle.std.proofs.Common.{◌≡◌, ◌≢◌, ◌∙◌, inl, inr, sym, ap, refl, ℕ, zero, suc, ◌+◌, ◌*◌, ◌<◌, ◌≤◌, List, ◌++◌, length, take, drop, slice_index, Bool, true, false, cond, ◌&&◌, not, eqb, leb, arith}
+use Rattle.std.proofs.lemmas.Bool.{cases_eq, and_from, and_parts, and_left, and_right, not_from_true, not_from_false, ne_eqb, eq-eqb, leb-true}
 use Rattle.std.proofs.lemmas.List.{drop-drop}
 use borrow.Rule.Slice.PartMut.{put_mid}
 use Rattle.sect_dev.specs.Device.{part_of}
@@ -8,8 +8,8 @@ use Rattle.page_model.specs.Bytes.{u32_at, overwrite}
 use Rattle.page_io.specs.Page.{part, page_at}
 use Rattle.page_io.specs.Store.{Pages, pages_from, are_in_order}
 use Rattle.page_io.proofs.PageLaws.{page_of_parts}
-use Rattle.commit_log.specs.Log.{Log, no_log, Slot, carry, unstamped, log_by}
-use Rattle.commit_log.proofs.Logs.{log_same, whole_or_not}
+use Rattle.commit_log.specs.Log.{Log, no_log, Slot, carry, unstamped, log_by, is_disordered}
+use Rattle.commit_log.proofs.Logs.{log_same, whole_or_not, disorder_same, whole_or_ordered}
 use Rattle.commit_log.proofs.Words.{part_at, put_here, put_apart}
 
 -- the number that a sector begins with
@@ -114,6 +114,45 @@ module _ (start : ℕ) (slot : Slot) (n c e : ℕ) (has_number : n ≡ u32_at (s
       (and_from (range && carry slot n (4 * c)) _ (and_from range (carry slot n (4 * c)) in_range
       all) order))
 
+-- whether it is disordered by its fields
+module _ (start : ℕ) (slot : Slot) (n c e : ℕ) (has_number : n ≡ u32_at (slot 0) 0)
+    (has_count : c ≡ u32_at (slot 0) 4) (has_end : e ≡ u32_at (slot 0) 8) where
+  abbrev fields : Bool
+  fields = (leb 1 n && (leb 1 c && leb c 15)) && (leb 4 e && leb e start)
+
+  abbrev order : Bool
+  order = are_in_order 1 e (pages_from (page_at (unstamped slot)) 0 c)
+
+  disordered_by : is_disordered start slot ≡ (fields && carry slot n (4 * c)) && not order
+  unfolding is_disordered
+  disordered_by =
+      let f = λ (n c e : ℕ). (((leb 1 n && (leb 1 c && leb c 15)) && (leb 4 e && leb e start))
+      && carry slot n (4 * c))
+      && not (are_in_order 1 e (pages_from (page_at (unstamped slot)) 0 c)) in
+      ap (λ (n : ℕ). f n (u32_at (slot 0) 4) (u32_at (slot 0) 8)) (sym has_number)
+      ∙ ap (λ (c : ℕ). f n c (u32_at (slot 0) 8)) (sym has_count)
+      ∙ ap (λ (e : ℕ). f n c e) (sym has_end)
+
+  pub ordered_if_out : fields ≡ false → false ≡ is_disordered start slot
+  ordered_if_out fails = sym (disordered_by ∙ and_left (fields && carry slot n (4 * c)) (not order)
+      (and_left fields (carry slot n (4 * c)) fails))
+
+  pub ordered_if_mixed : carry slot n (4 * c) ≡ false → false ≡ is_disordered start slot
+  ordered_if_mixed fails =
+      sym (disordered_by ∙ and_left (fields && carry slot n (4 * c)) (not order)
+      (and_right fields (carry slot n (4 * c)) fails))
+
+  pub ordered_if_found : order ≡ true → false ≡ is_disordered start slot
+  ordered_if_found holds =
+      sym (disordered_by ∙ and_right (fields && carry slot n (4 * c)) (not order)
+      (not_from_true order holds))
+
+  pub disordered_if : fields ≡ true → carry slot n (4 * c) ≡ true → order ≡ false
+      → true ≡ is_disordered start slot
+  disordered_if in_range all fails =
+      sym (disordered_by ∙ and_from (fields && carry slot n (4 * c)) (not order)
+      (and_from fields (carry slot n (4 * c)) in_range all) (not_from_false order fails))
+
 pub few_if : (start n c e : ℕ)
     → ((leb 1 n && (leb 1 c && leb c 15)) && (leb 4 e && leb e start)) ≡ true → c ≤ 15
 few_if start n c e holds =
@@ -130,6 +169,18 @@ same_slots start f g same = elim (whole_or_not start f) [
       (λ k lt. same (1 + k) (omega (arith, lt, whole.few))) start
   | inl none ↦ elim (whole_or_not start g) [
     | inr whole ↦ sym (log_same g f (sym (same 0 (omega arith)))
+        (λ k lt. sym (same (1 + k) (omega (arith, lt, whole.few)))) start)
+    | inl too ↦ none ∙ sym too
+  ]
+]
+
+pub same_disorder : (start : ℕ) (f g : Slot) → ((k : ℕ) → k < 61 → f k ≡ g k)
+    → is_disordered start f ≡ is_disordered start g
+same_disorder start f g same = elim (whole_or_ordered start f) [
+  | inr whole ↦ disorder_same f g (same 0 (omega arith))
+      (λ k lt. same (1 + k) (omega (arith, lt, whole.few))) start
+  | inl none ↦ elim (whole_or_ordered start g) [
+    | inr whole ↦ sym (disorder_same g f (sym (same 0 (omega arith)))
         (λ k lt. sym (same (1 + k) (omega (arith, lt, whole.few)))) start)
     | inl too ↦ none ∙ sym too
   ]

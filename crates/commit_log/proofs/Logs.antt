@@ -1,6 +1,6 @@
 -- What a slot says that is written in part, and what the log settles to then.
-use Rattle.std.proofs.Common.{◌≡◌, ◌⊎◌, inl, inr, ⊎_elim, ℕ, zero, suc, ◌+◌, ◌*◌, ◌<◌, ◌≤◌, List, ◌++◌, length, take, drop, Bool, true, cond, ◌&&◌, eqb, leb, refl, sym, ◌∙◌, ap, arith}
-use Rattle.std.proofs.lemmas.Bool.{cases_eq, cases_Bool, and_parts, eqb-true, leb-true, ne_eqb, lt-ltb, le-ltb}
+use Rattle.std.proofs.Common.{◌≡◌, ◌⊎◌, inl, inr, ⊎_elim, ℕ, zero, suc, ◌+◌, ◌*◌, ◌<◌, ◌≤◌, List, ◌++◌, length, take, drop, Bool, true, false, cond, ◌&&◌, ◌||◌, not, eqb, leb, refl, sym, ◌∙◌, ap, arith}
+use Rattle.std.proofs.lemmas.Bool.{cases_eq, cases_Bool, and_parts, and_left, and_right, not_from_true, eqb-true, leb-true, ne_eqb, lt-ltb, le-ltb}
 use Rattle.sect_dev.specs.Device.{Image, Candidates, sector_count, part_of, IsPart}
 use Rattle.page_model.specs.Bytes.{u32_at}
 use Rattle.page_io.specs.Page.{page_at}
@@ -8,7 +8,7 @@ use Rattle.page_io.proofs.Overlays.{same_pages, same_file, IsApart, overlaid-ove
 use Rattle.page_io.proofs.PageLaws.{same_page}
 use Rattle.page_io.specs.Store.{Pages, Settled, file_of, nothing, pages_from, file_pages, overlaid, are_in_order, IsEither}
 use Rattle.commit_log.specs.Homes.{IsOutsideAll}
-use Rattle.commit_log.specs.Log.{Log, no_log, Slot, slot_of, carry, unstamped, logged, is_in_range, log_of, log_by, settled_newer, settled_logs, settled_at, ArePlaces, IsLogged, Spells}
+use Rattle.commit_log.specs.Log.{Log, no_log, Slot, slot_of, carry, unstamped, logged, is_in_range, log_of, log_by, is_disordered, has_disordered, settled_newer, settled_logs, settled_at, ArePlaces, IsLogged, Spells}
 use Rattle.commit_log.proofs.Outside.{outside-above, outside-apart}
 
 -- one of the sectors that carry a number
@@ -53,7 +53,19 @@ module _ (f g : Slot) (first : f 0 ≡ g 0)
       (carry g (u32_at (f 0) 0) (4 * u32_at (f 0) 4)) ps) logged_same
       ∙ ap (λ (s : List ℕ). log_of start s (carry g (u32_at s 0) (4 * u32_at s 4)) (logged g)) first
 
--- a slot that says a commit
+  pub disorder_same : (start : ℕ) → is_disordered start f ≡ is_disordered start g
+  unfolding is_disordered
+  disorder_same start =
+      ap (λ (b : Bool). (is_in_range start (f 0) && b)
+      && not (are_in_order 1 (u32_at (f 0) 8) (logged f)))
+      (carry_same f g (u32_at (f 0) 0) (4 * u32_at (f 0) 4) same)
+      ∙ ap (λ (ps : Pages). (is_in_range start (f 0)
+      && carry g (u32_at (f 0) 0) (4 * u32_at (f 0) 4))
+      && not (are_in_order 1 (u32_at (f 0) 8) ps)) logged_same
+      ∙ ap (λ (s : List ℕ). (is_in_range start s && carry g (u32_at s 0) (4 * u32_at s 4))
+      && not (are_in_order 1 (u32_at s 8) (logged g))) first
+
+-- a slot all of whose sectors carry its number
 pub record IsWhole (slot : Slot) : Type 0 where
   pub few : u32_at (slot 0) 4 ≤ 15
   pub all : carry slot (u32_at (slot 0) 0) (4 * u32_at (slot 0) 4) ≡ true
@@ -81,6 +93,51 @@ whole_or_not start slot =
           inr (record { few = leb-true _ _ count.1; all = two.1 })
       | inr fails ↦ inl (ap (λ (b : Bool). cond b (said slot) no_log) fails)
     ]
+
+pub whole_or_ordered : (start : ℕ) (slot : Slot)
+    → (is_disordered start slot ≡ false) ⊎ IsWhole slot
+unfolding is_disordered
+whole_or_ordered start slot =
+    let first = slot 0 in
+    let all = carry slot (u32_at first 0) (4 * u32_at first 4) in
+    elim (cases_Bool (is_in_range start first && all)) [
+      | inl holds ↦
+          let two = and_parts (is_in_range start first) all holds in
+          let fields = and_parts _ _ two.0 in
+          let counts = and_parts _ _ fields.0 in
+          let count = and_parts _ _ counts.1 in
+          inr (record { few = leb-true _ _ count.1; all = two.1 })
+      | inr fails ↦ inl (and_left (is_in_range start first && all) _ fails)
+    ]
+
+-- a slot that says a commit is not disordered
+pub ordered_if : (start : ℕ) (slot : Slot) → 1 ≤ (log_by start slot).number
+    → is_disordered start slot ≡ false
+unfolding log_by is_disordered
+ordered_if start slot some =
+    let first = slot 0 in
+    let all = carry slot (u32_at first 0) (4 * u32_at first 4) in
+    let order = are_in_order 1 (u32_at first 8) (logged slot) in
+    elim (cases_Bool ((is_in_range start first && all) && order)) [
+      | inl holds ↦
+          let both = and_parts (is_in_range start first && all) order holds in
+          and_right (is_in_range start first && all) (not order) (not_from_true order both.1)
+      | inr fails ↦
+          let none : (log_of start first all (logged slot)).number ≡ 0 =
+          ap (λ (b : Bool). (cond b (said slot) no_log).number) fails in
+          absurd (omega (arith, some, none))
+    ]
+
+-- nor is one whose first sector has number 0
+pub ordered_none : (start : ℕ) (slot : Slot) → u32_at (slot 0) 0 ≡ 0
+    → is_disordered start slot ≡ false
+unfolding is_disordered
+ordered_none start slot zero_is =
+    let first = slot 0 in
+    let all = carry slot (u32_at first 0) (4 * u32_at first 4) in
+    let order = are_in_order 1 (u32_at first 8) (logged slot) in
+    ap (λ (n : ℕ). (((leb 1 n && (leb 1 (u32_at first 4) && leb (u32_at first 4) 15))
+    && (leb 4 (u32_at first 8) && leb (u32_at first 8) start)) && all) && not order) zero_is
 
 -- the number of what a slot says is 0, or its first sector's
 pub number_within : (start : ℕ) (slot : Slot) → (log_by start slot).number ≤ u32_at (slot 0) 0
@@ -119,36 +176,45 @@ module _ (start number count : ℕ) (old new image : Slot)
     (stamped : (k : ℕ) → k < 1 + 4 * count → u32_at (new k) 0 ≡ number)
     (counted : u32_at (new 0) 4 ≡ count) where
   -- a whole one whose first sector is as it was
-  as_it_was : IsWhole image → image 0 ≡ old 0 → log_by start image ≡ log_by start old
-  as_it_was whole first =
-      log_same image old first
-      (λ k lt. ⊎_elim (λ same. same)
+  all_old : IsWhole image → image 0 ≡ old 0 → (k : ℕ) → k < 4 * u32_at (image 0) 4
+      → image (1 + k) ≡ old (1 + k)
+  all_old whole first k lt = ⊎_elim (λ same. same)
       (λ is.
       let carried = carry_at image (u32_at (image 0) 0) (4 * u32_at (image 0) 4) k whole.all lt in
       let is_number = ap (λ (s : List ℕ). u32_at s 0) is.1 ∙ stamped (1 + k) is.0 in
       let was = ap (λ (s : List ℕ). u32_at s 0) first in
       absurd (omega (arith, carried, is_number, was, lower 0 (omega arith))))
-      (either (1 + k) (omega (arith, lt, whole.few)))) start
+      (either (1 + k) (omega (arith, lt, whole.few)))
 
   -- one whose first sector is new
-  as_is_new : IsWhole image → image 0 ≡ new 0 → log_by start image ≡ log_by start new
-  as_is_new whole first =
-      log_same image new first
-      (λ k lt. ⊎_elim
+  all_new : IsWhole image → image 0 ≡ new 0 → (k : ℕ) → k < 4 * u32_at (image 0) 4
+      → image (1 + k) ≡ new (1 + k)
+  all_new whole first k lt = ⊎_elim
       (λ same.
       let carried = carry_at image (u32_at (image 0) 0) (4 * u32_at (image 0) 4) k whole.all lt in
       let was = ap (λ (s : List ℕ). u32_at s 0) same in
       let is_number = ap (λ (s : List ℕ). u32_at s 0) first ∙ stamped 0 (omega arith) in
       absurd (omega (arith, carried, was, is_number, lower (1 + k) (omega (arith, lt, whole.few)))))
       (λ is. is.1)
-      (either (1 + k) (omega (arith, lt, whole.few)))) start
+      (either (1 + k) (omega (arith, lt, whole.few)))
 
   pub mixed : (log_by start image ≡ no_log)
       ⊎ ((log_by start image ≡ log_by start old) ⊎ (log_by start image ≡ log_by start new))
   mixed = elim (whole_or_not start image) [
     | inl none ↦ inl none
-    | inr whole ↦ inr (⊎_elim (λ same. inl (as_it_was whole same))
-        (λ is. inr (as_is_new whole is.1)) (either 0 (omega arith)))
+    | inr whole ↦ inr (⊎_elim (λ same. inl (log_same image old same (all_old whole same) start))
+        (λ is. inr (log_same image new is.1 (all_new whole is.1) start)) (either 0 (omega arith)))
+  ]
+
+  -- and it is not disordered where neither the old one is nor the new
+  pub mixed_ordered : is_disordered start old ≡ false → is_disordered start new ≡ false
+      → is_disordered start image ≡ false
+  mixed_ordered old_is new_is = elim (whole_or_ordered start image) [
+    | inl is ↦ is
+    | inr whole ↦ ⊎_elim
+        (λ same. disorder_same image old same (all_old whole same) start ∙ old_is)
+        (λ is. disorder_same image new is.1 (all_new whole is.1) start ∙ new_is)
+        (either 0 (omega arith))
   ]
 
 -- what two logs settle to, the older one first or second
@@ -182,11 +248,25 @@ either_place start at beside places =
     ⊎_elim (λ is. inl (is, places.first is)) (λ other. inr (places.second other))
     (cases_eq at (4 * start))
 
--- what an image settles to by its two slots
+-- neither slot is disordered
+neither_place : (image : Image) (start at beside : ℕ) → EitherPlace start at beside
+    → is_disordered start (slot_of image at) ≡ false
+    → is_disordered start (slot_of image beside) ≡ false → has_disordered image start ≡ false
+neither_place image start at beside (inl p) ordered too =
+    let by = λ (at : ℕ). is_disordered start (slot_of image at) in
+    ap (λ (b : Bool). b || by (4 * start + 64)) (ap by (sym p.0) ∙ ordered)
+    ∙ ap by (sym p.1) ∙ too
+neither_place image start at beside (inr p) ordered too =
+    let by = λ (at : ℕ). is_disordered start (slot_of image at) in
+    ap (λ (b : Bool). b || by (4 * start + 64)) (ap by (sym p.1) ∙ too)
+    ∙ ap by (sym p.0) ∙ ordered
+
+-- what an image settles to by its two slots, where neither is disordered
 by_either : (image : Image) (start at beside : ℕ) (older newer : Log) → EitherPlace start at beside
     → log_by start (slot_of image at) ≡ newer → log_by start (slot_of image beside) ≡ older
     → older.number < newer.number → 1 ≤ newer.number
-    → settled_at image start ≡ file_of
+    → settled_logs (log_by start (slot_of image (4 * start)))
+    (log_by start (slot_of image (4 * start + 64))) (page_at image) ≡ file_of
     (file_pages (overlaid newer.pages (overlaid older.pages (page_at image))) newer.end)
 by_either image start at beside older newer (inl p) newest other less some =
     let by = λ (at : ℕ). log_by start (slot_of image at) in
@@ -203,13 +283,26 @@ by_either image start at beside older newer (inr p) newest other less some =
     ∙ ap (λ (l : Log). settled_logs older l (page_at image)) second
     ∙ older_first older newer (page_at image) (omega (arith, less)) some
 
+-- settled_at where no slot is disordered
+pub settled_ordered : (image : Image) (start : ℕ) → has_disordered image start ≡ false
+    → settled_at image start ≡ settled_logs (log_by start (slot_of image (4 * start)))
+    (log_by start (slot_of image (4 * start + 64))) (page_at image)
+settled_ordered image start none = ap (λ (b : Bool). cond b nothing
+    (settled_logs (log_by start (slot_of image (4 * start)))
+    (log_by start (slot_of image (4 * start + 64))) (page_at image))) none
+
 pub by_slots : (image : Image) (start at beside : ℕ) (older newer : Log) → ArePlaces start at beside
     → log_by start (slot_of image at) ≡ newer → log_by start (slot_of image beside) ≡ older
-    → older.number < newer.number → 1 ≤ newer.number
-    → settled_at image start ≡ file_of
+    → is_disordered start (slot_of image beside) ≡ false → older.number < newer.number
+    → 1 ≤ newer.number → settled_at image start ≡ file_of
     (file_pages (overlaid newer.pages (overlaid older.pages (page_at image))) newer.end)
-by_slots image start at beside older newer places =
-    by_either image start at beside older newer (either_place start at beside places)
+by_slots image start at beside older newer places newest other ordered less some =
+    let place = either_place start at beside places in
+    let says : (log_by start (slot_of image at)).number ≡ newer.number =
+    ap (λ (l : Log). l.number) newest in
+    settled_ordered image start (neither_place image start at beside place
+    (ordered_if start (slot_of image at) (omega (arith, says, some))) ordered)
+    ∙ by_either image start at beside older newer place newest other less some
 
 -- the slots in the other order
 by_turned : (start at beside : ℕ) → EitherPlace start at beside → ArePlaces start beside at
@@ -235,10 +328,10 @@ at_least start at beside places = elim (either_place start at beside places) [
 ]
 
 -- where pages came to their own numbers, they stand over themselves
-pub twice : (waiting : Pages) (f g : ℕ → List ℕ) → ((n : ℕ) → g n ≡ overlaid waiting f n) → (n : ℕ)
+pub twice : (waiting : Pages) (f g : ℕ → List ℕ) (n : ℕ) → g n ≡ overlaid waiting f n
     → overlaid waiting g n ≡ g n
-twice waiting f g home n =
-    overlaid-over waiting f g n (λ apart. home n ∙ overlaid-apart waiting f n apart) ∙ sym (home n)
+twice waiting f g n home =
+    overlaid-over waiting f g n (λ apart. home ∙ overlaid-apart waiting f n apart) ∙ sym home
 
 -- While a commit is logged beside another one, and the pages of that come home: each sector is as it
 -- was, or one of the new log, or one of those pages.
@@ -299,6 +392,25 @@ module _ {candidate : Candidates} {seen : Image} {end start number at beside : �
         → overlaid waiting (page_at image) n ≡ overlaid waiting (page_at seen) n
     over_home n lt = overlaid-over waiting (page_at seen) (page_at image) n (same_home n lt)
 
+    -- the new commit is not disordered, nor what stands in its place meanwhile
+    new_ordered : is_disordered start (part_of bytes) ≡ false
+    new_ordered =
+        let says : (log_by start (part_of bytes)).number ≡ number + 1 =
+        ap (λ (l : Log). l.number) spelled.says in
+        ordered_if start (part_of bytes) (omega (arith, says))
+
+    beside_ordered : is_disordered start (slot_of image beside) ≡ false
+    beside_ordered = mixed_ordered start (number + 1) (length pages) (slot_of seen beside)
+        (part_of bytes) (slot_of image beside) either_beside
+        (λ k lt. omega (arith, is.lower k lt)) spelled.stamped spelled.counted is.ordered
+        new_ordered
+
+    newest_ordered : is_disordered start (slot_of image at) ≡ false
+    newest_ordered =
+        let says : (log_by start (slot_of image at)).number ≡ number =
+        ap (λ (l : Log). l.number) newest_stays in
+        ordered_if start (slot_of image at) (omega (arith, says, is.some))
+
     pub next_settles : IsEither (file_pages (overlaid waiting (page_at seen)) end)
         (file_pages (overlaid pages (overlaid waiting (page_at seen))) new_end)
         (settled_at image start)
@@ -308,7 +420,7 @@ module _ {candidate : Candidates} {seen : Image} {end start number at beside : �
         spelled.stamped spelled.counted) [
           | inl none ↦ inl (by_slots image start at beside no_log
               (record { number = number; end = end; pages = waiting }) is.places newest_stays none
-              (omega (arith, is.some)) is.some
+              beside_ordered (omega (arith, is.some)) is.some
               ∙ ap file_of (same_file (overlaid waiting (page_at image))
               (overlaid waiting (page_at seen)) end
               (λ n ge lt. over_home n (omega (arith, lt, is.above)))))
@@ -316,7 +428,7 @@ module _ {candidate : Candidates} {seen : Image} {end start number at beside : �
               let o = log_by start (slot_of seen beside) in
               inl (by_slots image start at beside o
               (record { number = number; end = end; pages = waiting }) is.places newest_stays old
-              (omega (arith, number_within start (slot_of seen beside), is.lower 0 (omega arith)))
+              beside_ordered (omega (arith, number_within start (slot_of seen beside), is.lower 0 (omega arith)))
               is.some
               ∙ ap file_of (same_file (overlaid waiting (overlaid o.pages (page_at image)))
               (overlaid waiting (page_at seen)) end
@@ -328,7 +440,7 @@ module _ {candidate : Candidates} {seen : Image} {end start number at beside : �
               (record { number = number; end = end; pages = waiting })
               (record { number = number + 1; end = new_end; pages = pages })
               (turned start at beside is.places) (now ∙ spelled.says) newest_stays
-              (omega arith) (omega arith)
+              newest_ordered (omega arith) (omega arith)
               ∙ ap file_of (same_file (overlaid pages (overlaid waiting (page_at image)))
               (overlaid pages (overlaid waiting (page_at seen))) new_end
               (λ n ge lt. overlaid-over pages (overlaid waiting (page_at seen))
@@ -351,6 +463,13 @@ module _ {candidate : Candidates} {seen : Image} {end start number at beside : �
       (behind_stays (from + 0) (omega (arith, le)))
       (λ k lt. behind_stays (from + (1 + k)) (omega (arith, le))) start
 
+  ordered_stays : is_disordered start (slot_of image beside) ≡ false
+  ordered_stays =
+      let low = at_least start beside at (turned start at beside is.places) in
+      disorder_same (slot_of image beside) (slot_of seen beside)
+      (behind_stays (beside + 0) (omega (arith, low)))
+      (λ k lt. behind_stays (beside + (1 + k)) (omega (arith, low))) start ∙ is.ordered
+
   pub home_settles : settled_at image start
       ≡ file_of (file_pages (overlaid waiting (page_at seen)) end)
   home_settles =
@@ -358,7 +477,7 @@ module _ {candidate : Candidates} {seen : Image} {end start number at beside : �
       by_slots image start at beside o (record { number = number; end = end; pages = waiting })
       is.places (slot_stays at (at_least start at beside is.places) ∙ is.newest)
       (slot_stays beside (at_least start beside at (turned start at beside is.places)))
-      (omega (arith, number_within start (slot_of seen beside), is.lower 0 (omega arith))) is.some
+      ordered_stays (omega (arith, number_within start (slot_of seen beside), is.lower 0 (omega arith))) is.some
       ∙ ap file_of (same_file (overlaid waiting (overlaid o.pages (page_at image)))
       (overlaid waiting (page_at seen)) end
       (λ n ge lt. overlaid-over waiting (overlaid o.pages (page_at seen))

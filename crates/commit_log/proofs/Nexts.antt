@@ -1,5 +1,5 @@
 -- What a stop may leave while a commit follows a logged one, and what is left after it.
-use Rattle.std.proofs.Common.{◌≡◌, ◌⊎◌, inl, inr, ⊎_elim, ℕ, ◌+◌, ◌-◌, ◌*◌, ◌<◌, ◌≤◌, List, length, true, sym, ◌∙◌, ap, arith}
+use Rattle.std.proofs.Common.{◌≡◌, ◌⊎◌, inl, inr, ⊎_elim, ℕ, ◌+◌, ◌-◌, ◌*◌, ◌<◌, ◌≤◌, List, length, true, false, sym, ◌∙◌, ap, arith}
 use Rattle.std.proofs.lemmas.Bool.{cases_lt}
 use Rattle.std.proofs.lemmas.List.{length-map}
 use Rattle.sect_dev.specs.Device.{Image, Candidates, IsImageOf, IsStable, NoNewCandidate, with_run_candidates, Elapses, LeavesOnly, sector_count, part_of, IsOutsideRun, IsPart, IsRunWritten}
@@ -7,14 +7,14 @@ use Rattle.sect_dev.specs.Moments.{by_call, followed_by, goes_on}
 use Rattle.sect_dev.specs.declared.device.SectorDev.{Ghosts}
 use Rattle.page_model.specs.Bytes.{u32_at}
 use Rattle.page_io.specs.Page.{page_at, KeepsWhere}
-use Rattle.page_io.specs.Store.{Pages, file_pages, overlaid, are_in_order, bytes_of, IsEither}
+use Rattle.page_io.specs.Store.{Pages, file_pages, overlaid, are_in_order, has_page, bytes_of, IsEither}
 use Rattle.page_io.specs.declared.page.Page.{Page}
-use Rattle.page_io.proofs.Overlays.{overlaid-over}
+use Rattle.page_io.proofs.Overlays.{overlaid-over, apart-has_page}
 use Rattle.page_io.proofs.PageLaws.{same_page}
 use Rattle.commit_log.specs.Homes.{IsOutsideAll}
 use Rattle.commit_log.specs.Log.{Log, slot_of, log_by, settled_at, IsLogged, Spells}
 use Rattle.commit_log.proofs.Outside.{outside-above, outside-below}
-use Rattle.commit_log.proofs.Logs.{next_settles, newest_stays, either_place, log_same, turned, at_least, twice}
+use Rattle.commit_log.proofs.Logs.{next_settles, newest_stays, either_place, log_same, turned, at_least, twice, ordered_if}
 
 module _ {D : Type 0} (dev : Ghosts D) (first : D) {end start number at beside : ℕ}
     {waiting : Pages}
@@ -95,7 +95,8 @@ module _ {candidate : Candidates} {seen : Image} {end start number at beside : �
     (all_of : length bytes ≡ 512 * (1 + 4 * length pages)) (new : new_end ≤ start)
     (written home : Image) (run : IsRunWritten seen beside bytes written)
     (others : (m : ℕ) → IsOutsideAll waiting m → home m ≡ written m)
-    (at_home : (n : ℕ) → page_at home n ≡ overlaid waiting (page_at written) n) where
+    (at_home : (n : ℕ) → has_page pages n ≡ false
+    → page_at home n ≡ overlaid waiting (page_at written) n) where
   long : sector_count bytes ≡ 1 + 4 * length pages
   long = omega (arith, all_of)
 
@@ -125,9 +126,11 @@ module _ {candidate : Candidates} {seen : Image} {end start number at beside : �
         | inr p ↦ inr (omega (arith, p.0, p.1, long, spelled.few))
       ]
 
-  -- in front of the log the pages that waited stand over what was there
-  pub pages_now : (n : ℕ) → n < start → page_at home n ≡ overlaid waiting (page_at seen) n
-  pages_now n lt = at_home n
+  -- in front of the log the pages that waited stand over what was there, but for those that the
+  -- commit has
+  pub pages_now : (n : ℕ) → n < start → has_page pages n ≡ false
+      → page_at home n ≡ overlaid waiting (page_at seen) n
+  pages_now n lt none = at_home n none
       ∙ overlaid-over waiting (page_at seen) (page_at written) n (λ apart. same n lt)
     where
       same : (n : ℕ) → n < start → page_at written n ≡ page_at seen n
@@ -169,10 +172,15 @@ module _ {candidate : Candidates} {seen : Image} {end start number at beside : �
         lower = λ k lt.
             let number_is = ap (λ (s : List ℕ). u32_at s 0) (has_newest k lt) in
             omega (arith, number_is, is.highest k lt);
+        ordered =
+            let says : (log_by start (slot_of home at)).number ≡ number =
+            ap (λ (l : Log). l.number) old in
+            ordered_if start (slot_of home at) (omega (arith, says, is.some));
         said = λ n. overlaid-over pages (page_at home)
             (overlaid (log_by start (slot_of home at)).pages (page_at home)) n
-            (λ _. ap (λ (l : Log). overlaid l.pages (page_at home) n) old
-            ∙ twice waiting (page_at written) (page_at home) at_home n);
+            (λ apart. ap (λ (l : Log). overlaid l.pages (page_at home) n) old
+            ∙ twice waiting (page_at written) (page_at home) n
+            (at_home n (apart-has_page pages n apart)));
       }
     where
       may : (m : ℕ) → IsOutsideAll waiting m

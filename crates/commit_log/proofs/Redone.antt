@@ -1,5 +1,5 @@
 -- What a stop leaves while both logs are redone.
-use Rattle.std.proofs.Common.{◌≡◌, inl, inr, ℕ, ◌+◌, ◌*◌, ◌<◌, ◌≤◌, List, Bool, true, cond, ◌&&◌, eqb, leb, ltb, ◌∙◌, ap, subst, arith}
+use Rattle.std.proofs.Common.{◌≡◌, inl, inr, ℕ, ◌+◌, ◌*◌, ◌<◌, ◌≤◌, List, Bool, true, cond, ◌&&◌, ◌||◌, eqb, leb, ltb, ◌∙◌, ap, subst, arith}
 use Rattle.std.proofs.lemmas.Bool.{cases_Bool, and_parts, leb-true}
 use Rattle.sect_dev.specs.Device.{Image, IsImageOf, IsStable, NoNewCandidate, Elapses, LeavesOnly}
 use Rattle.sect_dev.specs.Moments.{followed_by, weaker, goes_on}
@@ -10,9 +10,9 @@ use Rattle.page_io.specs.Store.{Pages, Settled, file_of, nothing, file_pages, ov
 use Rattle.page_io.proofs.Overlays.{same_file, IsApart, overlaid-over}
 use Rattle.page_io.proofs.PageLaws.{same_page}
 use Rattle.commit_log.specs.Homes.{IsOutsideAll}
-use Rattle.commit_log.specs.Log.{Log, no_log, Slot, slot_of, carry, logged, is_in_range, log_of, log_by, settled_newer, settled_logs, settled_at}
+use Rattle.commit_log.specs.Log.{Log, no_log, Slot, slot_of, carry, logged, is_in_range, log_of, log_by, is_disordered, has_disordered, settled_newer, settled_logs, settled_at}
 use Rattle.commit_log.specs.Redoing.{AreLogs}
-use Rattle.commit_log.proofs.Logs.{said, log_same, older_first, newer_first}
+use Rattle.commit_log.proofs.Logs.{said, log_same, disorder_same, settled_ordered, older_first, newer_first}
 use Rattle.commit_log.proofs.Outside.{outside-above, outside-apart, outside-below}
 
 -- the pages that a slot says are in order, and in front of the log
@@ -109,8 +109,22 @@ module _ (seen image : Image) (start : ℕ)
       (behind_stays (from + 0) (omega (arith, le)))
       (λ k lt. behind_stays (from + (1 + k)) (omega (arith, le))) start
 
-  pub redoing_settles : settled_at image start ≡ settled_at seen start
-  redoing_settles =
+  disorder_stays : (from : ℕ) → 4 * start ≤ from
+      → is_disordered start (slot_of image from) ≡ is_disordered start (slot_of seen from)
+  disorder_stays from le = disorder_same (slot_of image from) (slot_of seen from)
+      (behind_stays (from + 0) (omega (arith, le)))
+      (λ k lt. behind_stays (from + (1 + k)) (omega (arith, le))) start
+
+  same_disordered : has_disordered image start ≡ has_disordered seen start
+  same_disordered =
+      ap (λ (b : Bool). b || is_disordered start (slot_of image (4 * start + 64)))
+      (disorder_stays (4 * start) (omega arith))
+      ∙ ap (λ (b : Bool). is_disordered start (slot_of seen (4 * start)) || b)
+      (disorder_stays (4 * start + 64) (omega arith))
+
+  logs_settle : settled_logs (first_log image start) (second_log image start) (page_at image)
+      ≡ settled_logs (first_log seen start) (second_log seen start) (page_at seen)
+  logs_settle =
       ap (λ (l : Log). settled_logs l (second_log image start) (page_at image))
       (log_stays (4 * start) (omega arith))
       ∙ ap (λ (l : Log). settled_logs (first_log seen start) l (page_at image))
@@ -121,6 +135,13 @@ module _ (seen image : Image) (start : ℕ)
       (λ m ge4 lt4. may m
       (outside-apart (first_log seen start).pages n m apart_a ge4 lt4)
       (outside-apart (second_log seen start).pages n m apart_b ge4 lt4)))
+
+  pub redoing_settles : settled_at image start ≡ settled_at seen start
+  redoing_settles =
+      ap (λ (b : Bool). cond b nothing
+      (settled_logs (first_log image start) (second_log image start) (page_at image)))
+      same_disordered
+      ∙ ap (λ (s : Settled). cond (has_disordered seen start) nothing s) logs_settle
 
   pub sector_too : image 0 ≡ seen 0
   sector_too = may 0
@@ -163,7 +184,7 @@ settled_of {start} {end} {older} {newer} {seen} are =
   where
     by_order : settled_at seen start ≡ file_of (file_pages (overlaid are.new.pages
         (overlaid are.old.pages (page_at seen))) are.new.end)
-    by_order = elim are.slots [
+    by_order = settled_ordered seen start are.ordered ∙ elim are.slots [
       | inl p ↦
           ap (λ (l : Log). settled_logs l (second_log seen start) (page_at seen)) p.0
           ∙ ap (λ (l : Log). settled_logs are.old l (page_at seen)) p.1

@@ -9,7 +9,7 @@ use Rattle.page_io.proofs.Overlays.{overlaid-over, overlaid-none, has_page-none}
 use Rattle.page_io.proofs.PageLaws.{same_page}
 use Rattle.page_io.proofs.StagedPages.{in_range}
 use Rattle.commit_log.specs.Log.{Log, slot_of, log_by, IsLogged}
-use Rattle.commit_log.proofs.Finds.{same_slots}
+use Rattle.commit_log.proofs.Finds.{same_slots, same_disorder}
 use Rattle.commit_log.proofs.Logs.{at_least, turned}
 use Rattle.commit_log.proofs.Redone.{good_log}
 
@@ -77,5 +77,7 @@ module _ {candidate : Candidates} {seen : Image} {end start number at beside : �
       is.lower k lt,
       ap (λ (s : List ℕ). u32_at s 0) (in_slot beside k beside_low),
     );
+    ordered = same_disorder start (slot_of image beside) (slot_of seen beside)
+        (λ k lt. in_slot beside k beside_low) ∙ is.ordered;
     said = said_still;
   }

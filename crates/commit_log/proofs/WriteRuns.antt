@@ -64,13 +64,13 @@ module _ {D : Type 0} (dev : Ghosts D) (Kept : ℕ → Type 0) where
 -- one page more at its own number
 pub home_more : (before after : Image) (so_far : ℕ → List ℕ) (page : List ℕ) (own : ℕ)
     → own ≡ own_number page → page_at after own ≡ page
-    → ((m : ℕ) → IsOutsidePage own m → after m ≡ before m) → ((n : ℕ) → page_at before n ≡ so_far n)
-    → (n : ℕ) → page_at after n ≡ with_page so_far page n
-home_more before after so_far page own owns here others is n =
+    → ((m : ℕ) → IsOutsidePage own m → after m ≡ before m) → (n : ℕ) → page_at before n ≡ so_far n
+    → page_at after n ≡ with_page so_far page n
+home_more before after so_far page own owns here others n is =
     elim (cases_eq (own_number page) n) [
       | inl same ↦ ap (page_at after) (sym same ∙ sym owns) ∙ here
           ∙ sym (with_page-same so_far page n same)
       | inr other ↦ same_page after before n
-          (λ m ge lt. others m (other_page own n m (λ e. other (sym owns ∙ e)) ge lt)) ∙ is n
+          (λ m ge lt. others m (other_page own n m (λ e. other (sym owns ∙ e)) ge lt)) ∙ is
           ∙ sym (with_page-other so_far page n other)
     ]

@@ -1,5 +1,5 @@
 -- The two slots of a log, which commits in a row take by turns.
-use Rattle.std.specs.Prelude.{◌≡◌, ◌≢◌, ◌==◌, ◌≤◌, ◌<◌, ℕ, zero, suc, ◌+◌, ◌*◌, Bool, true, ◌&&◌, nat_le, nat_lt, if◌then◌else◌, List, [], ◌++◌, take, drop, length}
+use Rattle.std.specs.Prelude.{◌≡◌, ◌≢◌, ◌==◌, ◌≤◌, ◌<◌, ℕ, zero, suc, ◌+◌, ◌*◌, Bool, true, false, ◌&&◌, ◌||◌, not, nat_le, nat_lt, if◌then◌else◌, List, [], ◌++◌, take, drop, length}
 use Rattle.sect_dev.specs.Device.{Image, Candidates, IsStable, part_of}
 use Rattle.page_model.specs.Bytes.{u32_at}
 use Rattle.page_io.specs.Page.{page_at, IsOutside}
@@ -54,6 +54,18 @@ unfoldable pub log_by : ℕ → Slot → Log
 log_by start slot =
     log_of start (slot 0) (carry slot (u32_at (slot 0) 0) (4 * u32_at (slot 0) 4)) (logged slot)
 
+-- Whether a slot is whole and the numbers of its pages are out of order: no commit leaves one.
+unfoldable pub is_disordered : ℕ → Slot → Bool
+is_disordered start slot =
+    (is_in_range start (slot 0) && carry slot (u32_at (slot 0) 0) (4 * u32_at (slot 0) 4))
+    && not (are_in_order 1 (u32_at (slot 0) 8) (logged slot))
+
+-- whether one of the two slots is
+abbrev pub has_disordered : Image → ℕ → Bool
+has_disordered image start =
+    is_disordered start (slot_of image (4 * start))
+    || is_disordered start (slot_of image (4 * start + 64))
+
 -- the pages of the older commit stand over those at home, and those of the newer over both
 abbrev pub settled_newer : Log → Log → (ℕ → List ℕ) → Settled
 settled_newer older newer home =
@@ -69,7 +81,8 @@ settled_logs first second home =
 -- the pages that an image settles to whose commit sector names a log from page `start` on
 abbrev pub settled_at : Image → ℕ → Settled
 settled_at image start =
-    settled_logs (log_by start (slot_of image (4 * start)))
+    if has_disordered image start then nothing
+    else settled_logs (log_by start (slot_of image (4 * start)))
     (log_by start (slot_of image (4 * start + 64))) (page_at image)
 
 -- the first sectors of both slots, in this order or the other
@@ -92,6 +105,8 @@ pub record IsLogged (end start number at beside : ℕ) (waiting : Pages) (candid
   -- no sector of this slot has a greater number, and each of the other one has a lower one
   pub highest : (k : ℕ) → k < 61 → u32_at (seen (at + k)) 0 ≤ number
   pub lower : (k : ℕ) → k < 61 → u32_at (seen (beside + k)) 0 < number
+  -- the other slot says an older commit, or is not whole
+  pub ordered : is_disordered start (slot_of seen beside) ≡ false
   -- what the older commit says is at home, or waits
   pub said : (n : ℕ)
       → overlaid waiting (overlaid (log_by start (slot_of seen beside)).pages (page_at seen)) n

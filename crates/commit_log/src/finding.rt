@@ -4,8 +4,8 @@ ghost use Rattle.sect_dev.specs.Device.{part_of};
 ghost use Rattle.page_model.specs.Bytes.{u32_at};
 ghost use Rattle.page_io.specs.Page.{page_at};
 ghost use Rattle.page_io.specs.Store.{bytes_of, pages_from, are_in_order};
-ghost use Rattle.commit_log.specs.Log.{carry, unstamped, log_by, no_log};
-ghost use Rattle.commit_log.specs.Found.{log_found};
+ghost use Rattle.commit_log.specs.Log.{carry, unstamped, log_by, no_log, is_disordered};
+ghost use Rattle.commit_log.specs.Found.{log_found, AreAtMost};
 
 use crate::spelling::sector_of;
 use byteorder::{BigEndian, ByteOrder};
@@ -18,6 +18,10 @@ pub struct FoundLog {
     pub end: u32,
     pub count: usize,
     pub pages: [Page; 15],
+    /// The greatest number that a sector of the slot begins with.
+    pub highest: u32,
+    /// Whether the slot is whole and the numbers of its pages are out of order.
+    pub is_disordered: bool,
 }
 
 // The number in four bytes of a slot.
@@ -26,6 +30,17 @@ fn number_at(bytes: &[u8; 31232], at: usize) -> u32
     ensures { result ≡ u32_at bytes.now at }
 {
     BigEndian::read_u32(&bytes[at..])
+}
+
+// The greatest number that a sector of a slot begins with.
+fn highest_in(bytes: &[u8; 31232]) -> u32
+    ensures { AreAtMost result (part_of bytes.now) }
+{
+    let mut highest = 0;
+    for k in 0..61 {
+        highest = number_at(bytes, 512 * k).max(highest);
+    }
+    highest
 }
 
 // Whether so many sectors behind the first one carry a number.
@@ -99,37 +114,46 @@ fn are_in_range(start: u32, number: u32, count: u32, end: u32) -> bool
 pub fn find_log(start: u32, bytes: &[u8; 31232]) -> FoundLog
     ensures found { log_found result ≡ log_by start (part_of bytes.now) }
     ensures few { result.count ≤ 15 }
+    ensures highest { AreAtMost result.highest (part_of bytes.now) }
+    ensures disordered { result.is_disordered ≡ is_disordered start (part_of bytes.now) }
 {
+    let highest = highest_in(bytes);
     let number = number_at(bytes, 0);
     let count = number_at(bytes, 4);
     let end = number_at(bytes, 8);
     let mut pages = [Page::blank(); 15];
     if !are_in_range(start, number, count, end) {
-        return no_log(pages);
+        return no_log(pages, highest, false);
     }
     let count = count as usize;
     if !carries(bytes, number, 4 * count) {
-        return no_log(pages);
+        return no_log(pages, highest, false);
     }
     if !read_pages(bytes, end, count, &mut pages) {
-        return no_log(pages);
+        return no_log(pages, highest, true);
     }
     FoundLog {
         number,
         end,
         count,
         pages,
+        highest,
+        is_disordered: false,
     }
 }
 
-fn no_log(pages: [Page; 15]) -> FoundLog
+fn no_log(pages: [Page; 15], highest: u32, disordered: bool) -> FoundLog
     ensures found { log_found result ≡ no_log }
     ensures few { result.count ≤ 15 }
+    ensures highest { result.highest ≡ highest }
+    ensures disordered { result.is_disordered ≡ disordered }
 {
     FoundLog {
         number: 0,
         end: 0,
         count: 0,
         pages,
+        highest,
+        is_disordered: disordered,
     }
 }

@@ -5,8 +5,8 @@ ghost use Rattle.sect_dev.specs.Reads.{OnlyReads};
 ghost use Rattle.page_io.specs.Calls.{IsDeviceCall};
 ghost use Rattle.page_io.specs.Page.{page_at};
 ghost use Rattle.page_io.specs.Store.{file_of, nothing, file_pages, are_in_order, bytes_of};
-ghost use Rattle.commit_log.specs.Log.{slot_of, log_by, settled_at};
-ghost use Rattle.commit_log.specs.Found.{log_found, AreFound};
+ghost use Rattle.commit_log.specs.Log.{slot_of, log_by, is_disordered, settled_at};
+ghost use Rattle.commit_log.specs.Found.{log_found, AreAtMost, AreFound};
 
 use crate::finding::{FoundLog, find_log};
 use crate::redoing::redo;
@@ -18,6 +18,10 @@ pub fn read_slot<D: SectorDev>(dev: &mut D, start: u32, at: u32) -> Result<Found
     ensures found { D.honest dev.old → IfOk result (λ found.
         log_found found ≡ log_by start (slot_of (D.seen dev.old) at)) }
     ensures few { IfOk result (λ found. found.count ≤ 15) }
+    ensures highest { D.honest dev.old → IfOk result (λ found.
+        AreAtMost found.highest (slot_of (D.seen dev.old) at)) }
+    ensures disordered { D.honest dev.old → IfOk result (λ found.
+        found.is_disordered ≡ is_disordered start (slot_of (D.seen dev.old) at)) }
     ensures rising { IfOk result (λ found.
         are_in_order 1 found.end (bytes_of (take found.count found.pages)) ≡ true) }
     ensures above { IfOk result (λ found. found.end ≤ start) }
@@ -82,7 +86,8 @@ fn end_log<D: SectorDev>(
 }
 
 /// Ends a log that a stop has left: the pages of both slots come home, those of the newer commit
-/// last. It answers the end of the file, or none where neither slot says a commit.
+/// last. It answers the end of the file, or none where neither slot says a commit, and where the
+/// page numbers of a whole slot are out of order.
 pub fn recover_log<D: SectorDev>(dev: &mut D, start: u32) -> Result<Option<u32>, DevFault>
     requires stable { D.honest dev.old → IsStable (D.candidate dev.old) (D.seen dev.old) }
     requires room { 4 * start + 128 ≤ D.sectors dev.old }
@@ -109,6 +114,9 @@ pub fn recover_log<D: SectorDev>(dev: &mut D, start: u32) -> Result<Option<u32>,
 {
     let first = read_slot(dev, start, 4 * start)?;
     let second = read_slot(dev, start, 4 * start + 64)?;
+    if first.is_disordered || second.is_disordered {
+        return Ok(None);
+    }
     if second.number < first.number {
         return end_log(dev, start, &second, &first);
     }

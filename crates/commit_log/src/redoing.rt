@@ -7,7 +7,7 @@ ghost use Rattle.page_io.specs.Store.{file_of, file_pages, are_in_order, bytes_o
 ghost use Rattle.commit_log.specs.Log.{settled_at};
 ghost use Rattle.commit_log.specs.Redoing.{AreLogs};
 
-use crate::steps::write_homes;
+use crate::homes::write_homes;
 use page_io::Page;
 use sect_dev::{DevFault, SectorDev};
 

@@ -9,7 +9,7 @@ ghost use Rattle.commit_log.specs.Pieces.{sector_at};
 use byteorder::{BigEndian, ByteOrder};
 use page_io::Page;
 
-// Sector k of bytes.
+/// Sector k of bytes.
 pub fn sector_of(bytes: &[u8], k: usize) -> [u8; 512]
     requires { k < sector_count bytes.now }
     ensures { result ≡ part_of bytes.now k }

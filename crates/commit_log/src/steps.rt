@@ -1,42 +1,19 @@
 // A commit over a logged one.
-ghost use Rattle.std.specs.Prelude.{◌≡◌, ◌≤◌, ◌<◌, ◌+◌, ◌*◌, ◌^◌, ℕ, List, length, true, OnOk, slice_index_or, []};
+ghost use Rattle.std.specs.Prelude.{◌≡◌, ◌≤◌, ◌<◌, ◌+◌, ◌*◌, ◌^◌, ℕ, length, true, false, OnOk, slice_index_or, []};
 ghost use Rattle.sect_dev.specs.Device.{LeavesOnly, IsStable, part_of};
 ghost use Rattle.page_model.specs.Bytes.{u32_at};
 ghost use Rattle.page_io.specs.Calls.{IsDeviceCall};
 ghost use Rattle.page_io.specs.Page.{page_at, own_number, KeepsWhere};
-ghost use Rattle.page_io.specs.Store.{file_of, file_pages, overlaid, are_in_order, bytes_of, IsEither};
-ghost use Rattle.commit_log.specs.Homes.{IsOutsideAll};
+ghost use Rattle.page_io.specs.Store.{file_of, file_pages, overlaid, are_in_order, has_page, bytes_of, IsEither};
 ghost use Rattle.commit_log.specs.Log.{settled_at, IsLogged, Spells, IsBesideLog};
 
+use crate::homes::write_homes_but;
 use crate::spelling::spell;
-use page_io::{Page, write_page};
+use page_io::Page;
 use sect_dev::{DevFault, SectorDev};
 
-/// Writes each page at its own number.
-pub fn write_homes<D: SectorDev>(dev: &mut D, pages: &[Page]) -> Result<(), DevFault>
-    requires { (k : ℕ) → k < length pages.now
-        → 4 * own_number (slice_index_or (bytes_of pages.now) k []) + 4 ≤ D.sectors dev.old }
-    ensures any_moment { D.honest dev.old
-        → LeavesOnly D.moment D.left_since dev.old dev.new
-        (KeepsWhere (D.candidate dev.old) (IsOutsideAll (bytes_of pages.now))) }
-    ensures candidates { D.honest dev.old → (m : ℕ) (c : List ℕ)
-        → IsOutsideAll (bytes_of pages.now) m → D.candidate dev.new m c → D.candidate dev.old m c }
-    ensures others { D.honest dev.old
-        → OnOk result ((m : ℕ) → IsOutsideAll (bytes_of pages.now) m
-        → D.seen dev.new m ≡ D.seen dev.old m) }
-    ensures written { D.honest dev.old
-        → OnOk result ((n : ℕ) → page_at (D.seen dev.new) n
-        ≡ overlaid (bytes_of pages.now) (page_at (D.seen dev.old)) n) }
-    ensures device { IsDeviceCall D.SectorDev dev.old dev.new result }
-{
-    for page in pages {
-        write_page(dev, page.own(), page)?;
-    }
-    Ok(())
-}
-
 // A commit over a logged one, with one sync: its log, spelled by these bytes, is written over the
-// older one of the two, and the pages of the logged commit that wait are written home.
+// older one of the two, and the pages of the logged commit that wait are written home, but for those that this one has too.
 fn log_over<D: SectorDev>(
     dev: &mut D,
     start: u32,
@@ -76,18 +53,19 @@ fn log_over<D: SectorDev>(
         (D.candidate dev.new) (D.seen dev.new)) }
     ensures sector { D.honest dev.old → OnOk result (D.seen dev.new 0 ≡ D.seen dev.old 0) }
     ensures pages { D.honest dev.old
-        → OnOk result ((n : ℕ) → n < start → page_at (D.seen dev.new) n
+        → OnOk result ((n : ℕ) → n < start → has_page (bytes_of pages.now) n ≡ false
+        → page_at (D.seen dev.new) n
         ≡ overlaid (bytes_of waiting.now) (page_at (D.seen dev.old)) n) }
     ensures device { IsDeviceCall D.SectorDev dev.old dev.new result }
 {
     dev.write_run(beside, bytes)?;
-    write_homes(dev, waiting)?;
+    write_homes_but(dev, waiting, pages)?;
     dev.sync()
 }
 
 // A log begins with this commit, which these bytes spell in the first slot, with nothing behind it;
-// the second slot is made empty, and pages that wait since another commit are written home. The
-// commit sector is to name the log then.
+// the second slot is made empty, and pages that wait since another commit are written home, but for
+// those that this one has too. The commit sector is to name the log then.
 fn begin_log<D: SectorDev>(
     dev: &mut D,
     start: u32,
@@ -117,18 +95,19 @@ fn begin_log<D: SectorDev>(
         → OnOk result (IsLogged new_end start 1 (4 * start) (4 * start + 64) (bytes_of pages.now)
         (D.candidate dev.new) (D.seen dev.new)) }
     ensures pages { D.honest dev.old
-        → OnOk result ((n : ℕ) → n < start → page_at (D.seen dev.new) n
+        → OnOk result ((n : ℕ) → n < start → has_page (bytes_of pages.now) n ≡ false
+        → page_at (D.seen dev.new) n
         ≡ overlaid (bytes_of waiting.now) (page_at (D.seen dev.old)) n) }
     ensures device { IsDeviceCall D.SectorDev dev.old dev.new result }
 {
     dev.write_run(4 * start, bytes)?;
     dev.write_run(4 * start + 64, &[0; 31232])?;
-    write_homes(dev, waiting)?;
+    write_homes_but(dev, waiting, pages)?;
     dev.sync()
 }
 
 /// A commit over a logged one, with one sync: its log is written over the older one of the two, and
-/// the pages of the logged commit that wait are written home.
+/// the pages of the logged commit that wait are written home, but for those that this one has too.
 pub fn log_next<D: SectorDev>(
     dev: &mut D,
     start: u32,
@@ -167,7 +146,8 @@ pub fn log_next<D: SectorDev>(
         (D.candidate dev.new) (D.seen dev.new)) }
     ensures sector { D.honest dev.old → OnOk result (D.seen dev.new 0 ≡ D.seen dev.old 0) }
     ensures pages { D.honest dev.old
-        → OnOk result ((n : ℕ) → n < start → page_at (D.seen dev.new) n
+        → OnOk result ((n : ℕ) → n < start → has_page (bytes_of pages.now) n ≡ false
+        → page_at (D.seen dev.new) n
         ≡ overlaid (bytes_of waiting.now) (page_at (D.seen dev.old)) n) }
     ensures device { IsDeviceCall D.SectorDev dev.old dev.new result }
 {
@@ -189,7 +169,7 @@ pub fn log_next<D: SectorDev>(
 }
 
 /// A log begins with this commit, in the first slot of two; pages that wait since another commit
-/// are written home. The commit sector is to name the log then.
+/// are written home, but for those that this one has too. The commit sector is to name the log then.
 pub fn log_first<D: SectorDev>(
     dev: &mut D,
     start: u32,
@@ -218,7 +198,8 @@ pub fn log_first<D: SectorDev>(
         → OnOk result (IsLogged new_end start 1 (4 * start) (4 * start + 64) (bytes_of pages.now)
         (D.candidate dev.new) (D.seen dev.new)) }
     ensures pages { D.honest dev.old
-        → OnOk result ((n : ℕ) → n < start → page_at (D.seen dev.new) n
+        → OnOk result ((n : ℕ) → n < start → has_page (bytes_of pages.now) n ≡ false
+        → page_at (D.seen dev.new) n
         ≡ overlaid (bytes_of waiting.now) (page_at (D.seen dev.old)) n) }
     ensures device { IsDeviceCall D.SectorDev dev.old dev.new result }
 {

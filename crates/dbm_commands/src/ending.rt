@@ -3,7 +3,8 @@ ghost use Rattle.std.specs.Prelude.{◌≡◌, ◌⊎◌, ◌/◌, true, false, 
 ghost use Rattle.std.specs.Io.KnownBytes.{Keeps};
 ghost use Rattle.sect_dev.specs.Device.{LeavesOnly, MoreFaults};
 ghost use Rattle.sect_dev.specs.Moments.{IsOutcome};
-ghost use Rattle.redo_area.specs.File.{settled, IsAtRest};
+ghost use Rattle.redo_area.specs.File.{settled};
+ghost use Rattle.redo_area.specs.Opening.{IsClosed};
 ghost use Rattle.dbm_file.specs.Database.{store_of, page_state};
 ghost use Rattle.dbm_file.specs.Opened.{device_below};
 
@@ -50,9 +51,10 @@ pub fn close_after<D: SectorDev>(
     ensures cause { OnOk done (result.1 ≡ Err (Failure.Fault (EngineFault.Db Fault.Device))
         → MoreFaults (D.faults (device_below db)) (D.faults result.0)) }
 
-    // Where all went well, the file of a database opened for writing is at rest.
-    ensures rests { D.honest result.0 → (page_state db).writable ≡ true
-        → OnOk result.1 (IsAtRest (D.sectors result.0 / 4) (page_state db).end
+    // Where all went well, all of a database opened for writing is on the disk, and no commit on its
+    // way, but for one in a log.
+    ensures closed { D.honest result.0 → (page_state db).writable ≡ true
+        → OnOk result.1 (IsClosed (D.sectors result.0 / 4) (page_state db).end
         (D.candidate result.0) (D.seen result.0)) }
 
     // Every image of every moment settles to something that the store of the database might have

@@ -1,13 +1,16 @@
 //! Opening a device, and closing it.
 
-ghost use Rattle.std.specs.Prelude.{◌≡◌, ◌≢◌, ◌⊎◌, ◌↔◌, ◌≤◌, ◌<◌, ◌/◌, IfOk, IfErr, IfSome, OnOk, None, Err, true, false, [], ◌∷◌};
+ghost use Rattle.std.specs.Prelude.{◌≡◌, ◌≢◌, ◌⊎◌, ◌↔◌, ◌≤◌, ◌<◌, ◌/◌, IfOk, IfErr, IfSome, OnOk, IsErrOf, None, Err, true, false, [], ◌∷◌};
 ghost use Rattle.std.specs.FinMap.{empty};
 ghost use Rattle.dbm_model.specs.Bounds.{Bounds};
 ghost use Rattle.sect_dev.specs.Device.{Image, IsImageOf, IsStable, LeavesOnly, MoreFaults};
 ghost use Rattle.sect_dev.specs.Moments.{IsOutcome};
 ghost use Rattle.dbm_model.specs.Pairs.{Contents};
+ghost use Rattle.page_io.specs.Answers.{HasDeviceCause, IsSettleAnswer};
 ghost use Rattle.page_io.specs.Meaning.{ImageStandsFor};
-ghost use Rattle.redo_area.specs.File.{settled, IsAtRest};
+ghost use Rattle.redo_area.specs.File.{settled};
+ghost use Rattle.redo_area.specs.Opening.{IsClosed};
+ghost use Rattle.redo_area.specs.Pagers.{device_of};
 ghost use Rattle.dbm_fault.specs.Among.{IsErrAmong};
 ghost use Rattle.sect_dev.specs.Reads.{OnlyReads};
 ghost use Rattle.dbm_model.specs.States.{Handle};
@@ -22,7 +25,7 @@ use crate::{Fault, OpenHow};
 use bucket_chain::{NearContent, RankedPage};
 use file_opening::open_file;
 use page_cache::CachedPages;
-use page_io::{Page, PageStore};
+use page_io::{Page, PageFault, PageStore};
 use redo_area::{CommitKind, Pager};
 use sect_dev::SectorDev;
 use std::alloc::Global;
@@ -154,9 +157,10 @@ impl<D: SectorDev> Database<CachedPages<Pager<D>>> {
     }
 
     /// Closes a database, and gives the device back (POSIX: `dbm_close`). Pages of the last commit
-    /// that still wait are put in their places first: `Device` where that fails, which loses
-    /// nothing, for the next opening ends it. `Broken` where a change was left in doubt. No device
-    /// call is made then, nor for a database opened for reading.
+    /// that still wait are put in their places first, but for those in a log, which the next opening
+    /// takes over: `Device` where that fails, which loses nothing, for the next opening ends it.
+    /// `Broken` where a change was left in doubt. No device call is made then, nor for a database
+    /// opened for reading, nor for one whose last commit is in a log.
     pub fn close(self) -> (D, Result<(), Fault>)
         ensures broken { (result.1 ≡ Err Fault.Broken) ↔ ((page_state self).usable ≡ false) }
         ensures device { result.1 ≡ Err Fault.Device
@@ -184,17 +188,51 @@ impl<D: SectorDev> Database<CachedPages<Pager<D>>> {
             → (image : Image) → IsImageOf (D.candidate result.0) image
             → ImageStandsFor (settled (D.sectors result.0 / 4) image) h.state.map h.state.bounds }
 
-        // Of a database opened for writing all is then on the disk, and no commit on its way.
-        ensures rests { D.honest result.0 → (page_state self).writable ≡ true
-            → OnOk result.1 (IsAtRest (D.sectors result.0 / 4) (page_state self).end
+        // Of a database opened for writing all is then on the disk. No commit is on its way, but for
+        // one in a log.
+        ensures closed { D.honest result.0 → (page_state self).writable ≡ true
+            → OnOk result.1 (IsClosed (D.sectors result.0 / 4) (page_state self).end
             (D.candidate result.0) (D.seen result.0)) }
         ensures honesty { D.honest result.0 ↔ D.honest (device_below self) }
         ensures later { D.faults (device_below self) ≤ D.faults result.0 }
         ensures size { D.sectors result.0 / 4 ≡ D.sectors (device_below self) / 4 }
     {
         let mut store = self.store;
-        let settled = store.settle();
+        let rested = rest(&mut store);
         let dev = store.into_inner().into_dev();
-        (dev, settled.map_err(Fault::from))
+        (dev, rested.map_err(Fault::from))
     }
+}
+
+// Leaves a store as a closing does: pages of the last commit that wait come to their places, but for
+// those in a log.
+fn rest<D: SectorDev>(store: &mut CachedPages<Pager<D>>) -> Result<(), PageFault>
+    ensures any_moment { ⟦<CachedPages<Pager<D>> as PageStore>⟧.honest store.old
+        → LeavesOnly ⟦<CachedPages<Pager<D>> as PageStore>⟧.moment
+        ⟦<CachedPages<Pager<D>> as PageStore>⟧.settled_since store.old store.new
+        (⟦<CachedPages<Pager<D>> as PageStore>⟧.settles_to store.old) }
+    ensures closed { D.honest (device_of (store_below store.new))
+        → (⟦<CachedPages<Pager<D>> as PageStore>⟧.state store.old).writable ≡ true
+        → OnOk result (IsClosed (D.sectors (device_of (store_below store.new)) / 4)
+        (⟦<CachedPages<Pager<D>> as PageStore>⟧.state store.old).end
+        (D.candidate (device_of (store_below store.new)))
+        (D.seen (device_of (store_below store.new)))) }
+    ensures ok { OnOk result (⟦<CachedPages<Pager<D>> as PageStore>⟧.state store.new
+        ≡ ⟦<CachedPages<Pager<D>> as PageStore>⟧.state store.old) }
+    ensures breaks { IsErrOf result PageFault.Device
+        → ⟦<CachedPages<Pager<D>> as PageStore>⟧.state store.new
+        ≡ record (⟦<CachedPages<Pager<D>> as PageStore>⟧.state store.old) { usable = false } }
+    ensures untouched { ((⟦<CachedPages<Pager<D>> as PageStore>⟧.state store.old).usable ≡ false)
+        ⊎ ((⟦<CachedPages<Pager<D>> as PageStore>⟧.state store.old).writable ≡ false)
+        → store.new ≡ store.old }
+    ensures answer { IsSettleAnswer (⟦<CachedPages<Pager<D>> as PageStore>⟧.state store.old) result }
+    ensures honesty { ⟦<CachedPages<Pager<D>> as PageStore>⟧.honest store.new
+        ↔ ⟦<CachedPages<Pager<D>> as PageStore>⟧.honest store.old }
+    ensures cause { HasDeviceCause (⟦<CachedPages<Pager<D>> as PageStore>⟧.faults store.old)
+        (⟦<CachedPages<Pager<D>> as PageStore>⟧.faults store.new) result }
+{
+    if !store.is_broken() && store.inner().is_in_log() {
+        return Ok(());
+    }
+    store.settle()
 }

@@ -2,7 +2,7 @@
 
 use crate::Fault;
 use crate::database::{Database, refuse};
-use crate::pass::Pass;
+use crate::pass::{MAX_PAIR, Pass};
 use linear_hash::next_pair;
 use page_io::PageStore;
 use slot_page::pair_at;
@@ -11,7 +11,7 @@ impl<S: PageStore> Database<S> {
     ghost use Rattle.std.specs.Prelude.{◌≡◌, ◌≢◌, ◌⊎◌, ◌↔◌, ◌≤◌, IfOk, IfSome, Err, length, true, ◌∷◌, []};
     ghost use Rattle.std.specs.Borrow.{sem};
     ghost use Rattle.dbm_model.specs.Calls.{Call, First, Next, End};
-    ghost use Rattle.dbm_model.specs.States.{NotBegun, Begun};
+    ghost use Rattle.dbm_model.specs.States.{NotBegun, Begun, Behind};
     ghost use Rattle.dbm_model.specs.Steps.{Passes, IsAhead, case_of};
     ghost use Rattle.dbm_fault.specs.Among.{IsErrAmong};
     ghost use Rattle.linear_hash.specs.Passing.{IsPassed};
@@ -19,7 +19,7 @@ impl<S: PageStore> Database<S> {
     ghost use Rattle.page_io.specs.Views.{body_at};
     ghost use Rattle.dbm_file.specs.Answers.{IsStep, IsCallEnded};
     ghost use Rattle.dbm_file.specs.Calls.{lent_reply, seen};
-    ghost use Rattle.dbm_file.specs.Database.{store_of, meta_kept, page_state, AtEachHandle};
+    ghost use Rattle.dbm_file.specs.Database.{store_of, meta_kept, page_state, error_of, AtEachHandle};
     ghost use Rattle.dbm_file.specs.Ending.{EndsAs};
     ghost use Rattle.dbm_file.specs.Lending.{Lends};
     ghost use Rattle.dbm_file.specs.Passing.{pass_of, pass_from, pass_at};
@@ -81,6 +81,19 @@ impl<S: PageStore> Database<S> {
             Ok(Some(slot)) => Ok(Some(pair_at(self.ranked.page(), slot).0)),
             Ok(None) => Ok(None),
             Err(fault) => Err(fault),
+        }
+    }
+
+    /// Has the pass stand behind this key, as if it had been the last one given. A key that is longer
+    /// than one may be leaves the pass. No device call is made.
+    pub fn resume(&mut self, key: &[u8])
+        ensures still { (store_of self.new ≡ store_of self.old)
+            × (meta_kept self.new ≡ meta_kept self.old)
+            × (error_of self.new ≡ error_of self.old) }
+        ensures behind { length key.now ≤ 2026 → pass_of self.new ≡ Behind key.now }
+    {
+        if key.len() <= MAX_PAIR {
+            self.pass.go_behind(key);
         }
     }
 

@@ -15,7 +15,7 @@ ghost use Rattle.dbm_file.specs.Opened.{pages_kept, device_opened, AllHaveRoom, 
 use crate::database::{Database, Db};
 use crate::{Fault, OpenHow};
 use page_cache::CachedPages;
-use redo_area::{Pager, write_back};
+use redo_area::{Pager, change_turn, write_back};
 use sect_dev::SectorDev;
 use std::alloc::Global;
 
@@ -23,7 +23,8 @@ use std::alloc::Global;
 const MIN_SECTORS: u32 = 16;
 
 impl<D: SectorDev> Database<CachedPages<Pager<D>>> {
-    /// As `open`, of a device over a file. For writing, the commit sector is written back first, and a
+    /// As `open`, of a device over a file. For writing, the turn number is another one first, so that
+    /// programs that share the file look at it anew. Then the commit sector is written back, and a
     /// log that it names, with the bytes that they have, so that the first sync of the opening has
     /// them on the disk.
     ///
@@ -93,7 +94,7 @@ impl<D: SectorDev> Database<CachedPages<Pager<D>>> {
         if !how.access.is_writable() || dev.capacity() < MIN_SECTORS {
             return Db::open(alloc, dev, how);
         }
-        if write_back(&mut dev).is_err() {
+        if change_turn(&mut dev).is_err() || write_back(&mut dev).is_err() {
             return Err((dev, Fault::Device));
         }
         Db::open(alloc, dev, how)

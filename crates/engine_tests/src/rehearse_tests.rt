@@ -89,7 +89,7 @@ fn each_stop_of_a_script_is_kept(rt: HostRuntime) -> Result<(), Fail> {
     let mut counter = Counter::NEW;
     let counts = rehearsed(rt.alloc(), SCRIPT, None, &mut written, &mut counter)?;
     assert!(rt; is_all_kept(counts), "{counts:?}");
-    assert!(rt; counts.calls == 15 && counts.stops == counts.device_calls && counts.stops > 270);
+    assert!(rt; counts.calls == 15 && counts.stops == counts.device_calls && counts.stops > 190);
     assert!(rt; counter.stops == counts.stops && counter.is_cleared);
     Ok(())
 }

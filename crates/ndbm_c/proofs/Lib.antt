@@ -4,4 +4,5 @@ pub mod Fields
 pub mod Generic
 pub mod Opened
 pub mod Owned
+pub mod Resting
 pub mod Steps

@@ -1,11 +1,12 @@
 -- A call by way of a handle.
-use Rattle.std.specs.Prelude.{◌≡◌, ℕ, ℤ, pos, List, [], Option, Some, None}
+use Rattle.std.specs.Prelude.{◌≡◌, ◌≤◌, ℕ, ℤ, pos, List, [], length, Option, Some, None}
 use Rattle.std.specs.Borrow.{Bor}
 use Rattle.dbm_model.specs.Bounds.{V1}
 use Rattle.dbm_model.specs.Calls.{Broken, Call, Upgrade}
 use Rattle.dbm_model.specs.Pairs.{Pair}
 use Rattle.dbm_file.specs.Changing.{WasStored, WasDeleted, WasUpgraded}
-use Rattle.dbm_file.specs.Database.{meta_kept, AtEachHandle}
+use Rattle.dbm_model.specs.States.{Behind}
+use Rattle.dbm_file.specs.Database.{store_of, meta_kept, error_of, AtEachHandle}
 use Rattle.dbm_file.specs.Opened.{device_below}
 use Rattle.dbm_file.specs.Passing.{pass_of}
 use Rattle.listed_dev.specs.declared.listed_dev.ListedDev.{ListedDev}
@@ -34,6 +35,14 @@ OnDatabase old new status Goes = OnHandle old new status (λ o n s. OnOpen o n s
 -- by a call
 pub record Calls (call : Call) (status : ℤ) (bytes : List ℕ) (old new : Opened) : Type 0 where
   pub answered : IsAnswered old.db new.db call status bytes
+  pub group : new.group ≡ old.group
+
+-- The pass stands behind this key, where it is as long as one may be.
+pub record Resumes (key : List ℕ) (status : ℤ) (old new : Opened) : Type 0 where
+  pub zero : status ≡ pos 0
+  pub behind : length key ≤ 2026 → pass_of new.db ≡ Behind key
+  pub still : (store_of new.db ≡ store_of old.db) × (meta_kept new.db ≡ meta_kept old.db)
+      × (error_of new.db ≡ error_of old.db)
   pub group : new.group ≡ old.group
 
 -- The database has version 2 now, or was refused. On any file of version 1 nothing but the version has

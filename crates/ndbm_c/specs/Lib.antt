@@ -4,3 +4,4 @@ pub mod Held
 pub mod Looks
 pub mod Opening
 pub mod Serving
+pub mod Sharing

@@ -13,3 +13,6 @@ mod opening;
 mod parts;
 mod reads;
 mod serving;
+mod sharing;
+
+pub use sharing::rests_on_disk;

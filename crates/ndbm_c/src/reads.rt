@@ -1,7 +1,7 @@
 // Calls that give bytes.
 ghost use Rattle.std.specs.Prelude.{◌≡◌, ◌≢◌, ◌≤◌, pos, take};
 ghost use Rattle.dbm_model.specs.Calls.{Fetch, First, Next};
-ghost use Rattle.ndbm_c.specs.Held.{OnDatabase, Calls};
+ghost use Rattle.ndbm_c.specs.Held.{OnDatabase, Calls, Resumes};
 
 use crate::handle::Handle;
 use dbm_file::Fault;
@@ -68,6 +68,20 @@ pub extern "C" fn ndbm_c_nextkey(
         return refusal(Fault::Broken);
     };
     let status = held.nextkey(out, length);
+    handle.put(held);
+    status
+}
+
+/// Has the pass stand behind this key, as if it had been given last: 0.
+#[unsafe(no_mangle)]
+pub extern "C" fn ndbm_c_resume(alloc: Global, handle: &mut Handle, key: &[u8]) -> i32
+    ensures answered { OnDatabase handle.old.held handle.new.held result
+        (Resumes key.now result) }
+{
+    let Some(mut held) = handle.take(alloc) else {
+        return refusal(Fault::Broken);
+    };
+    let status = held.resume(key);
     handle.put(held);
     status
 }

@@ -7,7 +7,8 @@ use Rattle.dbm_model.specs.Calls.{Broken, Device}
 use Rattle.dbm_model.specs.States.{Handle}
 use Rattle.page_io.specs.Meaning.{ImageStandsFor}
 use Rattle.page_io.specs.declared.store.PageStore as store
-use Rattle.redo_area.specs.File.{settled, IsAtRest}
+use Rattle.redo_area.specs.File.{settled}
+use Rattle.redo_area.specs.Opening.{IsClosed}
 use Rattle.redo_area.specs.declared.pager.Pager.{Pager}
 use Rattle.page_cache.specs.declared.cached_pages.CachedPages.{CachedPages}
 use Rattle.dbm_file.specs.Database.{store_of, page_state, IsAt}
@@ -32,7 +33,7 @@ pub record Closes {D : Type 0} (bound : device.Ghosts D) {p : store.Ghosts (Page
   pub stands : bound.honest left → (h : Handle) → IsAt db h → h.state.usable ≡ true
       → (image : Image) → IsImageOf (bound.candidate left) image
       → ImageStandsFor (settled (bound.sectors left / 4) image) h.state.map h.state.bounds
-  -- where it was opened for writing, all is in its place and on the disk
-  pub rests : bound.honest left → (page_state db).writable ≡ true → status ≡ pos 0
-      → IsAtRest (bound.sectors left / 4) (page_state db).end (bound.candidate left) (bound.seen left)
+  -- where it was opened for writing, all is on the disk, and in its place but for what is in a log
+  pub closed : bound.honest left → (page_state db).writable ≡ true → status ≡ pos 0
+      → IsClosed (bound.sectors left / 4) (page_state db).end (bound.candidate left) (bound.seen left)
   pub honesty : bound.honest left ↔ bound.honest (device_below db)

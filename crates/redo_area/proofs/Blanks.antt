@@ -1,12 +1,14 @@
 -- A device is blank exactly where its first sector is zeros.
-use Rattle.std.proofs.Common.{◌≡◌, ◌≢◌, inl, inr, ℕ, List, drop, replicate, ◌+◌, Bool, true, false, cond, ◌&&◌, eqb, leb, refl, sym, ◌∙◌, ap, subst}
+use Rattle.std.proofs.Common.{◌≡◌, ◌≢◌, inl, inr, ℕ, List, drop, replicate, ◌+◌, ◌*◌, Bool, true, false, cond, ◌&&◌, eqb, leb, ltb, refl, sym, ◌∙◌, ap, subst}
 use Rattle.std.proofs.lemmas.Bool.{cases_eq}
 use Rattle.std.specs.Cmp.Lexicographic.{pointwise}
 use Rattle.sect_dev.specs.Device.{Image, Candidates, IsImageOf, with_sector}
 use Rattle.sect_dev.specs.Moments.{at_same, at_other}
 use Rattle.sect_dev.specs.Sector.{zeros}
 use Rattle.page_model.specs.Bytes.{u32_at}
-use Rattle.page_io.specs.Store.{Pages, blank, file_of, nothing, are_in_order}
+use Rattle.page_io.specs.Page.{page_at}
+use Rattle.page_io.specs.Store.{Pages, blank, file_of, file_pages, nothing, overlaid, are_in_order}
+use Rattle.commit_log.specs.Log.{slot_of, log_by, has_disordered}
 use Rattle.redo_area.specs.Header.{has_magic, is_magic, header_by, header_of}
 use Rattle.redo_area.specs.declared.header.CommitKind.TheVariants.{Log}
 use Rattle.redo_area.specs.declared.header.Header.{Header}
@@ -51,12 +53,14 @@ over_images : (order : Bool) (pages : Pages) → cond order (file_of pages) noth
 over_images true pages is = cc
 over_images false pages is = cc
 
-over_logs : (turned first second : Bool) (a b : Pages)
-    → cond turned (cond first nothing (file_of a)) (cond second nothing (file_of b)) ≢ blank
-over_logs true true second a b is = cc
-over_logs true false second a b is = cc
-over_logs false first true a b is = cc
-over_logs false first false a b is = cc
+over_logs : (damaged turned first second : Bool) (a b : Pages)
+    → cond damaged nothing (cond turned (cond first nothing (file_of a))
+    (cond second nothing (file_of b))) ≢ blank
+over_logs true turned first second a b is = cc
+over_logs false true true second a b is = cc
+over_logs false true false second a b is = cc
+over_logs false false first true a b is = cc
+over_logs false false first false a b is = cc
 
 blank_header : (header : Header) (image : Image) → settled_by header image ≡ blank → header ≡ Blank
 blank_header Blank image is = refl
@@ -64,7 +68,13 @@ blank_header (Clear end) image is = cc
 blank_header (Armed end start count) image is =
     absurd (over_images (are_in_order 1 end (redo_images image start count)) _ is)
 blank_header (Logging start) image is =
-    absurd (over_logs _ _ _ _ _ is)
+    let first = log_by start (slot_of image (4 * start)) in
+    let second = log_by start (slot_of image (4 * start + 64)) in
+    let home = page_at image in
+    absurd (over_logs (has_disordered image start) (ltb second.number first.number)
+    (eqb first.number 0) (eqb second.number 0)
+    (file_pages (overlaid first.pages (overlaid second.pages home)) first.end)
+    (file_pages (overlaid second.pages (overlaid first.pages home)) second.end) is)
 blank_header NotOurs image is = cc
 blank_header Damaged image is = cc
 

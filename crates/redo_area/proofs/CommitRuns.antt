@@ -1,13 +1,13 @@
 -- What a stop may leave while a commit goes on, step by step.
-use Rattle.std.proofs.Common.{◌≡◌, ◌⊎◌, ◌<◌, ◌≤◌, ◌*◌, ◌+◌, ◌/◌, ◌^◌, ℕ, List, length, true, inl, inr, ⊎_elim, refl, sym, ◌∙◌, ap, subst, arith}
+use Rattle.std.proofs.Common.{◌≡◌, ◌⊎◌, ◌<◌, ◌≤◌, ◌*◌, ◌+◌, ◌/◌, ◌^◌, ℕ, List, length, true, false, inl, inr, ⊎_elim, refl, sym, ◌∙◌, ap, subst, arith}
 use Rattle.std.proofs.lemmas.List.{length-map}
 use Rattle.sect_dev.specs.Device.{Image, IsImageOf, IsStable, with_sector, with_candidate, LeavesOnly}
 use Rattle.sect_dev.specs.Moments.{two_images, followed_by, weaker}
 use Rattle.sect_dev.specs.declared.device.SectorDev.{Ghosts}
 use Rattle.page_io.specs.Page.{page_at, IsOutside, KeepsWhere}
-use Rattle.page_io.proofs.Overlays.{same_file, overlaid-over}
+use Rattle.page_io.proofs.Overlays.{same_file, overlaid-over, apart-has_page}
 use Rattle.page_io.proofs.PageLaws.{at_same, at_other}
-use Rattle.page_io.specs.Store.{Pages, pages_from, file_of, file_pages, overlaid, are_in_order, bytes_of, IsEither}
+use Rattle.page_io.specs.Store.{Pages, pages_from, file_of, file_pages, overlaid, are_in_order, has_page, bytes_of, IsEither}
 use Rattle.page_io.specs.declared.page.Page.{Page}
 use Rattle.redo_area.specs.Header.{header_of, spelled}
 use Rattle.redo_area.specs.declared.header.CommitKind.{CommitKind}
@@ -182,7 +182,8 @@ module _ {D : Type 0} (dev : Ghosts D) (first mid : D) {old_end old_start held :
       → LeavesOnly dev.moment dev.left_since mid home
       (KeepsWhere (dev.candidate mid) (IsOutsideAll waiting))
       → ((m : ℕ) → IsOutsideAll waiting m → dev.seen home m ≡ dev.seen mid m)
-      → ((n : ℕ) → page_at (dev.seen home) n ≡ overlaid waiting (page_at (dev.seen mid)) n)
+      → ((n : ℕ) → has_page (bytes_of pages) n ≡ false
+      → page_at (dev.seen home) n ≡ overlaid waiting (page_at (dev.seen mid)) n)
       → IsStable (dev.candidate home) (dev.seen home)
       → header_of (dev.sectors first / 4) content ≡ Armed new_end start count
       → new_end ≤ start → are_in_order 1 new_end (bytes_of pages) ≡ true
@@ -211,5 +212,6 @@ module _ {D : Type 0} (dev : Ghosts D) (first mid : D) {old_end old_start held :
       ∙ ap file_of (same_file (overlaid (bytes_of pages) (page_at (dev.seen home)))
       (overlaid (bytes_of pages) before) new_end
       (λ n ge lt. overlaid-over (bytes_of pages) before (page_at (dev.seen home)) n
-      (λ apart. now_home (dev.seen first) (dev.seen mid) (dev.seen home) start waiting at_home
-      (λ m low. beside m (inl low)) n (omega (arith, lt, above)))))))
+      (λ apart. now_home (dev.seen first) (dev.seen mid) (dev.seen home) start waiting n
+      (at_home n (apart-has_page (bytes_of pages) n apart))
+      (λ m low. beside m (inl low)) (omega (arith, lt, above)))))))

@@ -13,7 +13,8 @@ use Rattle.redo_area.specs.Header.{header_of}
 use Rattle.redo_area.specs.declared.header.Header.TheVariants.{Armed}
 use Rattle.redo_area.specs.File.{settled, IsOutsideAll, IsAtRest}
 use Rattle.redo_area.proofs.CommitRuns.{then_header}
-use Rattle.redo_area.proofs.Images.{outside-below, staging, armed_over, now_armed}
+use Rattle.commit_log.proofs.Outside.{outside-below}
+use Rattle.redo_area.proofs.Images.{staging, armed_over, now_armed}
 
 module _ {D : Type 0} (dev : Ghosts D) (first mid : D) {old_end new_end : ℕ}
     (rest : IsAtRest (dev.sectors first / 4) old_end (dev.candidate first) (dev.seen first))

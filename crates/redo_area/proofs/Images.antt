@@ -1,77 +1,17 @@
 -- What the images of each step of a commit settle to.
-use Rattle.std.proofs.Common.{◌≡◌, ◌⊎◌, inl, inr, ⊎_elim, ℕ, zero, suc, ◌+◌, ◌*◌, ◌<◌, ◌≤◌, List, [], ◌∷◌, length, get_or, Bool, true, false, cond, ◌&&◌, leb, ltb, refl, sym, ◌∙◌, ap, arith}
-use Rattle.std.proofs.lemmas.Bool.{cases_lt, and_parts, leb-true, ltb-true}
+use Rattle.std.proofs.Common.{◌≡◌, ◌⊎◌, inl, inr, ⊎_elim, ℕ, ◌+◌, ◌*◌, ◌<◌, ◌≤◌, List, length, Bool, true, false, cond, refl, sym, ◌∙◌, ap, arith}
 use Rattle.sect_dev.specs.Device.{Image, Candidates, IsStable, with_sector}
-use Rattle.page_io.specs.Page.{page_at, own_number, IsOutside, IsOutsidePage}
+use Rattle.page_io.specs.Page.{page_at, IsOutside}
 use Rattle.page_io.proofs.PageLaws.{same_page, at_same, at_other}
 use Rattle.page_io.specs.Store.{Pages, blank, file_of, nothing, pages_from, file_pages, overlaid, are_in_order}
-use Rattle.page_io.proofs.Overlays.{same_pages, same_file, IsApart, overlaid-over}
+use Rattle.page_io.proofs.Overlays.{same_pages, same_file, overlaid-over}
 use Rattle.redo_area.specs.Header.{header_of}
 use Rattle.redo_area.specs.declared.header.Header.{Header}
 use Rattle.redo_area.specs.declared.header.Header.TheVariants.{Blank, Clear, Armed, Logging, NotOurs, Damaged}
 use Rattle.commit_log.specs.Log.{settled_at, IsLogged}
 use Rattle.commit_log.proofs.LogHolds.{log_holds}
+use Rattle.commit_log.proofs.Outside.{outside-below, outside-above, outside-apart}
 use Rattle.redo_area.specs.File.{settled, settled_by, settled_over, redo_images, IsOutsideAll, IsAtRest, IsArmed, IsHeld, HoldsWaiting}
-
-record Parts (least end own : ℕ) (rest : Bool) : Type 0 where
-  low : least ≤ own
-  high : own < end
-  later : rest ≡ true
-
-parts : (least end : ℕ) (page : List ℕ) (pages : Pages)
-    → are_in_order least end (page ∷ pages) ≡ true
-    → Parts least end (own_number page) (are_in_order (own_number page + 1) end pages)
-parts least end page pages is =
-    let both = and_parts (leb least (own_number page) && ltb (own_number page) end)
-    (are_in_order (own_number page + 1) end pages) is in
-    let ends = and_parts (leb least (own_number page)) (ltb (own_number page) end) both.0 in
-    record { low = leb-true _ _ ends.0; high = ltb-true _ _ ends.1; later = both.1 }
-
--- a sector below the least page
-pub outside-below : (least end : ℕ) (pages : Pages) (m : ℕ) → are_in_order least end pages ≡ true
-    → m < 4 * least → IsOutsideAll pages m
-outside-below least end [] m order lt = tt
-outside-below least end (page ∷ pages) m order lt =
-    let p = parts least end page pages order in (
-      inl (omega (arith, lt, p.low)),
-      outside-below (own_number page + 1) end pages m p.later (omega (arith, lt, p.low)),
-    )
-
--- a sector from the end on
-pub outside-above : (least end : ℕ) (pages : Pages) (m : ℕ) → are_in_order least end pages ≡ true
-    → 4 * end ≤ m → IsOutsideAll pages m
-outside-above least end [] m order le = tt
-outside-above least end (page ∷ pages) m order le =
-    let p = parts least end page pages order in
-    (inr (omega (arith, le, p.high)), outside-above (own_number page + 1) end pages m p.later le)
-
--- a sector of a page that has none of their numbers
-pub outside-apart : (pages : Pages) (n m : ℕ) → IsApart pages n → 4 * n ≤ m → m < 4 * n + 4
-    → IsOutsideAll pages m
-outside-apart [] n m apart ge lt = tt
-outside-apart (page ∷ pages) n m apart ge lt =
-    let other = apart.0 in (
-      elim (cases_lt (own_number page) n) [
-        | inl below ↦ inr (omega (arith, below, ge))
-        | inr above ↦ inl (omega (arith, above, lt, other))
-      ],
-      outside-apart pages n m apart.1 ge lt,
-    )
-
--- one of the pages
-pub outside_at : (pages : Pages) (m k : ℕ) → IsOutsideAll pages m → k < length pages
-    → IsOutsidePage (own_number (get_or pages k [])) m
-outside_at [] m k out lt = absurd (omega (arith, lt))
-outside_at (page ∷ pages) m zero out lt = out.0
-outside_at (page ∷ pages) m (suc k) out lt = outside_at pages m k out.1 (omega (arith, lt))
-
-pub below_end : (least end : ℕ) (pages : Pages) (k : ℕ) → are_in_order least end pages ≡ true
-    → k < length pages → own_number (get_or pages k []) < end
-below_end least end [] k order lt = absurd (omega (arith, lt))
-below_end least end (page ∷ pages) zero order lt = (parts least end page pages order).high
-below_end least end (page ∷ pages) (suc k) order lt =
-    below_end (own_number page + 1) end pages k (parts least end page pages order).later
-    (omega (arith, lt))
 
 -- pages behind sector 0 are as they were
 pub same_new : (first mid : Image) (redo : Pages) (end start : ℕ) → end ≤ start
@@ -83,13 +23,13 @@ same_new first mid redo end start le same =
     (λ apart. same_page mid first n
     (λ m ge4 lt4. same m (omega (arith, ge, ge4)) (omega (arith, lt, le, lt4)))))
 
--- pages came to their own numbers, and what else was written stands behind
-pub now_home : (first written mid : Image) (from : ℕ) (redo : Pages)
-    → ((n : ℕ) → page_at mid n ≡ overlaid redo (page_at written) n)
+-- a page came to its own number, and what else was written stands behind
+pub now_home : (first written mid : Image) (from : ℕ) (redo : Pages) (n : ℕ)
+    → page_at mid n ≡ overlaid redo (page_at written) n
     → ((m : ℕ) → m < 4 * from → written m ≡ first m)
-    → (n : ℕ) → n < from → page_at mid n ≡ overlaid redo (page_at first) n
-now_home first written mid from redo home same n lt =
-    home n ∙ overlaid-over redo (page_at first) (page_at written) n
+    → n < from → page_at mid n ≡ overlaid redo (page_at first) n
+now_home first written mid from redo n home same lt =
+    home ∙ overlaid-over redo (page_at first) (page_at written) n
     (λ apart. same_page written first n (λ m ge4 lt4. same m (omega (arith, lt, lt4))))
 
 -- images stay behind pages that come to their own numbers

@@ -12,7 +12,7 @@ use Rattle.redo_area.specs.Settling.{SettlesTo}
 use Rattle.redo_area.specs.declared.pager.Pager.{Pager}
 use Rattle.page_io.proofs.Overlays.{overlaid-none, page_of-file}
 use Rattle.page_io.proofs.StagedPages.{replaced}
-use Rattle.redo_area.proofs.ReadRuns.{none_yet}
+use Rattle.commit_log.proofs.ReadRuns.{none_yet}
 
 -- a page that was looked for in a list, and not found
 pub not_found : {pages items : List Page} {b : Bool} (n : ℕ) → pages ≡ items

@@ -12,11 +12,11 @@ mod LogReads
 mod LogRecoveries
 pub mod LogRuns
 mod Openings
-mod Orders
 pub mod ReadRuns
 mod Recoveries
 mod Results
+mod SectorRanges
 pub mod Splits
 mod StillSettles
-pub mod WriteRuns
+mod Turns
 pub mod Writes

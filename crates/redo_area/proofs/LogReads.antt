@@ -37,22 +37,3 @@ pub page_left : (items so_far : Pages) (home old : ℕ → List ℕ) (page : Lis
 page_left items so_far home old page n end above lt is =
     is ∙ sym (with_page-other (overlaid so_far old) page n (λ same. omega (arith, same, above, lt)))
     ∙ sym (ap (λ (f : ℕ → List ℕ). f n) (overlaid-push so_far old page))
-
--- what both slots say, in the order of their numbers
-module _ (start : ℕ) (seen : Image) (first second : Log)
-    (is_first : first ≡ log_by start (slot_of seen (4 * start)))
-    (is_second : second ≡ log_by start (slot_of seen (4 * start + 64))) where
-  both : settled_at seen start ≡ settled_logs first second (page_at seen)
-  both = sym (ap (λ (l : Log). settled_logs l second (page_at seen)) is_first
-      ∙ ap (λ (l : Log). settled_logs (log_by start (slot_of seen (4 * start))) l (page_at seen))
-      is_second)
-
-  pub first_newer : second.number < first.number
-      → settled_at seen start ≡ settled_newer second first (page_at seen)
-  first_newer lt = both ∙ ap (λ (b : Bool). cond b (settled_newer second first (page_at seen))
-      (settled_newer first second (page_at seen))) (lt-ltb second.number first.number lt)
-
-  pub second_newer : first.number ≤ second.number
-      → settled_at seen start ≡ settled_newer first second (page_at seen)
-  second_newer le = both ∙ ap (λ (b : Bool). cond b (settled_newer second first (page_at seen))
-      (settled_newer first second (page_at seen))) (le-ltb second.number first.number le)

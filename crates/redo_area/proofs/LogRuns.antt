@@ -1,11 +1,11 @@
 -- What a stop may leave while a log begins.
-use Rattle.std.proofs.Common.{◌≡◌, ◌⊎◌, inl, inr, ◌<◌, ◌≤◌, ◌*◌, ◌+◌, ◌/◌, ◌^◌, ℕ, List, refl, ◌∙◌, ap, arith}
+use Rattle.std.proofs.Common.{◌≡◌, ◌⊎◌, inl, inr, ◌<◌, ◌≤◌, ◌*◌, ◌+◌, ◌/◌, ◌^◌, ℕ, List, false, refl, ◌∙◌, ap, arith}
 use Rattle.sect_dev.specs.Device.{Image, IsImageOf, with_sector, with_candidate, LeavesOnly}
 use Rattle.sect_dev.specs.Moments.{weaker}
 use Rattle.sect_dev.specs.declared.device.SectorDev.{Ghosts}
 use Rattle.page_io.specs.Page.{page_at, IsOutside, KeepsWhere}
-use Rattle.page_io.specs.Store.{Pages, file_of, file_pages, overlaid, IsEither}
-use Rattle.page_io.proofs.Overlays.{same_file, overlaid-over}
+use Rattle.page_io.specs.Store.{Pages, file_of, file_pages, overlaid, has_page, IsEither}
+use Rattle.page_io.proofs.Overlays.{same_file, overlaid-over, apart-has_page}
 use Rattle.page_io.proofs.PageLaws.{at_same, at_other}
 use Rattle.commit_log.specs.Log.{IsLogged, IsBesideLog}
 use Rattle.commit_log.proofs.Logs.{home_settles}
@@ -49,7 +49,7 @@ module _ {D : Type 0} (dev : Ghosts D) (first mid : D) {old_end start held place
   pub log_named : (after : D) (content : List ℕ) {new_end number at beside : ℕ} {pages : Pages}
       → IsLogged new_end place number at beside pages (dev.candidate mid) (dev.seen mid)
       → ((m : ℕ) → IsBesideLog place waiting m → dev.seen mid m ≡ dev.seen first m)
-      → ((n : ℕ) → n < place
+      → ((n : ℕ) → n < place → has_page pages n ≡ false
       → page_at (dev.seen mid) n ≡ overlaid waiting (page_at (dev.seen first)) n)
       → dev.sectors first < 2 ^ 32 → place + 32 ≤ dev.sectors first / 4
       → content ≡ spelled Log 2 new_end place 0
@@ -75,4 +75,5 @@ module _ {D : Type 0} (dev : Ghosts D) (first mid : D) {old_end start held place
       ∙ ap file_of (same_file (overlaid pages (page_at (dev.seen mid)))
       (overlaid pages (overlaid waiting (page_at (dev.seen first)))) new_end
       (λ n ge lt. overlaid-over pages (overlaid waiting (page_at (dev.seen first)))
-      (page_at (dev.seen mid)) n (λ _. homes n (omega (arith, lt, logged.above)))))))
+      (page_at (dev.seen mid)) n (λ apart. homes n (omega (arith, lt, logged.above))
+      (apart-has_page pages n apart))))))

@@ -1,7 +1,8 @@
 -- What a stop may leave while opening ends a commit, call by call.
-use Rattle.std.proofs.Common.{◌≡◌, ◌<◌, ◌≤◌, ◌/◌, ◌^◌, ℕ, List, true, refl, sym, ◌∙◌, ap}
+use Rattle.std.proofs.Common.{◌≡◌, ◌<◌, ◌≤◌, ◌/◌, ◌^◌, ℕ, List, true, refl, sym, ◌∙◌, ap, subst}
 use Rattle.sect_dev.specs.Device.{Image, IsImageOf, IsStable, NoNewCandidate, with_candidate, Elapses, LeavesOnly}
-use Rattle.sect_dev.specs.Moments.{only_image, fewer_images, by_call, followed_by, weaker, goes_on}
+use Rattle.sect_dev.specs.Moments.{only_image, fewer_images, started, by_call, followed_by, weaker, goes_on}
+use Rattle.sect_dev.specs.Reads.{OnlyReads}
 use Rattle.sect_dev.specs.declared.device.SectorDev.{Ghosts}
 use Rattle.page_io.specs.Page.{page_at, KeepsWhere}
 use Rattle.page_io.specs.Store.{Pages, file_of, pages_from, file_pages, overlaid, are_in_order}
@@ -13,6 +14,21 @@ use Rattle.redo_area.specs.File.{settled, redo_images, SettlesAsBefore, IsOutsid
 use Rattle.redo_area.proofs.Images.{settled-armed}
 use Rattle.redo_area.proofs.CommitRuns.{under_images, homes_leave, clear_leaves}
 
+-- before any call, where all is on the disk
+pub untouched : {D : Type 0} (dev : Ghosts D) (first : D)
+    → IsStable (dev.candidate first) (dev.seen first)
+    → ((image : Image) → dev.left_since first (dev.moment first).at image
+    → IsImageOf (dev.candidate first) image)
+    → LeavesOnly dev.moment dev.left_since first first
+    (λ image. settled (dev.sectors first / 4) image
+    ≡ settled (dev.sectors first / 4) (dev.seen first))
+untouched dev first stable only_now =
+    started dev.moment dev.left_since first
+    (λ image. settled (dev.sectors first / 4) image
+    ≡ settled (dev.sectors first / 4) (dev.seen first))
+    (λ image left. ap (settled (dev.sectors first / 4))
+    (only_image (dev.candidate first) (dev.seen first) image stable (only_now image left)))
+
 -- calls that add no candidate
 pub as_before : {D : Type 0} (dev : Ghosts D) (first new : D)
     → LeavesOnly dev.moment dev.left_since first new (IsImageOf (dev.candidate first))
@@ -22,6 +38,42 @@ as_before dev first new run =
     weaker dev.moment dev.left_since first new
     (SettlesAsBefore (dev.sectors first / 4) (dev.candidate first))
     (IsImageOf (dev.candidate first)) run (λ image is. (image, is, refl))
+
+-- and then reads, where all is on the disk
+module _ {D : Type 0} (dev : Ghosts D) (first mid new : D)
+    (run : LeavesOnly dev.moment dev.left_since first mid (IsImageOf (dev.candidate first)))
+    (start : IsImageOf (dev.candidate first) (dev.seen mid))
+    (stable : IsStable (dev.candidate mid) (dev.seen mid)) where
+  only_mid : (image : Image) → IsImageOf (dev.candidate mid) image
+      → IsImageOf (dev.candidate first) image
+  only_mid image is = subst (IsImageOf (dev.candidate first))
+      (sym (only_image (dev.candidate mid) (dev.seen mid) image stable is)) start
+
+  pub read_behind : OnlyReads dev mid new → LeavesOnly dev.moment dev.left_since first new
+      (SettlesAsBefore (dev.sectors first / 4) (dev.candidate first))
+  read_behind reads =
+      as_before dev first new
+      (followed_by dev.moment dev.left_since first mid new (IsImageOf (dev.candidate first))
+      (IsImageOf (dev.candidate mid)) run reads.any_moment only_mid)
+
+  -- and what is found there is settled
+  pub settled_behind : (after : D) → OnlyReads dev mid new
+      → dev.sectors new ≡ dev.sectors mid → dev.sectors mid ≡ dev.sectors first
+      → LeavesOnly dev.moment dev.left_since new after
+      (λ image. settled (dev.sectors new / 4) image
+      ≡ settled (dev.sectors new / 4) (dev.seen new))
+      → LeavesOnly dev.moment dev.left_since first after
+      (SettlesAsBefore (dev.sectors first / 4) (dev.candidate first))
+  settled_behind after reads size size_mid run_after =
+      followed_by dev.moment dev.left_since first new after
+      (SettlesAsBefore (dev.sectors first / 4) (dev.candidate first)) _ (read_behind reads)
+      run_after
+      (λ image is. (
+        dev.seen new,
+        subst (IsImageOf (dev.candidate first)) (sym reads.seen) start,
+        subst (λ (s : ℕ). settled (s / 4) image ≡ settled (s / 4) (dev.seen new))
+            (size ∙ size_mid) is,
+      ))
 
 -- a sync
 module _ {D : Type 0} (dev : Ghosts D) (first mid : D)

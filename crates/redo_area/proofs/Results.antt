@@ -68,3 +68,14 @@ pub err_then : {T E : Type 0} (P Q : E → Type 0) (r : Result T E) → IfErr r 
     → ((e : E) → r ≡ Err e → P e → Q e) → IfErr r Q
 err_then P Q (Ok x) p then = tt
 err_then P Q (Err e) p then = then e refl p
+
+-- what holds of an answer where there is one, and of none
+pub some_then : {T : Type 0} {P Q : T → Type 0} (answer : Option T) → IfSome answer P
+    → ((x : T) → P x → Q x) → IfSome answer Q
+some_then (Some x) p then = then x p
+some_then None p then = tt
+
+pub none_then : {T P Q : Type 0} (answer : Option T) → IfNone answer P → (P → Q)
+    → IfNone answer Q
+none_then (Some x) p then = tt
+none_then None p then = then p

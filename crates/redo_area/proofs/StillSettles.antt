@@ -37,6 +37,7 @@ module _ {before now : Candidates} (fewer : NoNewCandidate before now) where
             above = logged.above;
             highest = logged.highest;
             lower = logged.lower;
+            ordered = logged.ordered;
             said = logged.said;
           };
         };

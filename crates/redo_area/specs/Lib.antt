@@ -3,6 +3,8 @@ pub mod File
 pub mod Header
 pub mod Opening
 pub mod Pagers
+pub mod Resuming
 pub mod SectorExamples
 pub mod Settling
+pub mod Turn
 pub mod Ways

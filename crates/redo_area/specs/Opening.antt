@@ -2,8 +2,9 @@
 use Rattle.std.specs.Prelude.{◌≡◌, ◌≢◌, ◌⊎◌, ◌≤◌, ℕ, [], true, Bool, if◌then◌else◌, Option, Some, None, Result, IfErr}
 use Rattle.sect_dev.specs.Device.{Image, Candidates, IsImageOf, IsStable, MoreFaults}
 use Rattle.page_io.specs.Store.{Settled, StoreState, blank, file_of, nothing}
-use Rattle.redo_area.specs.Header.{header_of, has_magic}
-use Rattle.redo_area.specs.declared.header.Header.TheVariants.{Armed, Logging}
+use Rattle.redo_area.specs.Header.{header_of, has_magic, kind_of}
+use Rattle.redo_area.specs.declared.header.CommitKind.TheVariants.{Images}
+use Rattle.redo_area.specs.declared.header.Header.TheVariants.{Clear, Armed, Logging}
 use Rattle.redo_area.specs.File.{settled}
 use Rattle.redo_area.specs.declared.open_fault.OpenFault.{OpenFault}
 use Rattle.redo_area.specs.declared.open_fault.OpenFault.TheVariants.{Memory, Device, Blank, NotOurs, Damaged}
@@ -28,6 +29,13 @@ pub record SaysArmed (capacity : ℕ) (image : Image) : Type 0 where
 pub record SaysLogging (capacity : ℕ) (image : Image) : Type 0 where
   pub start : ℕ
   pub header : header_of capacity (image 0) ≡ Logging start
+
+-- Of a file that was closed all is on the disk, and its commit sector is clear; where its commits may
+-- be in a log it may name one, which the next opening for writing takes over.
+pub record IsClosed (capacity end : ℕ) (candidate : Candidates) (seen : Image) : Type 0 where
+  pub stable : IsStable candidate seen
+  pub header : (header_of capacity (seen 0) ≡ Clear end) ⊎ SaysLogging capacity seen
+  pub images : kind_of (seen 0) ≡ Images → header_of capacity (seen 0) ≡ Clear end
 
 -- pages of an image stand beside their own numbers, which opening for reading takes into memory
 abbrev pub SaysUnsettled : ℕ → Image → Type 0

@@ -71,6 +71,19 @@ impl RedoArea {
         }
     }
 
+    /// A log from a page on.
+    pub fn in_log(start: u32, log: LogPlace) -> RedoArea
+        ensures { result
+            ≡ record { kind = Log; start = start; held = 32; log = Some log } }
+    {
+        RedoArea {
+            kind: CommitKind::Log,
+            start,
+            held: LOG_PAGES,
+            log: Some(log),
+        }
+    }
+
     /// A log from a page on, whose first slot has its first commit.
     pub fn of_log(start: u32) -> RedoArea
         requires { 4 * start + 64 < 2 ^ 32 }
@@ -81,16 +94,12 @@ impl RedoArea {
           log = Some (record { number = 1; at = 4 * start; beside = 4 * start + 64 });
         } }
     {
-        RedoArea {
-            kind: CommitKind::Log,
-            start,
-            held: LOG_PAGES,
-            log: Some(LogPlace {
-                number: 1,
-                at: 4 * start,
-                beside: 4 * start + 64,
-            }),
-        }
+        let log = LogPlace {
+            number: 1,
+            at: 4 * start,
+            beside: 4 * start + 64,
+        };
+        RedoArea::in_log(start, log)
     }
 
     /// The same log with another newest commit.

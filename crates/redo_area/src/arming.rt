@@ -6,7 +6,7 @@ ghost use Rattle.page_io.specs.Page.{page_at, own_number};
 ghost use Rattle.page_io.specs.Store.{bytes_of, file_pages, overlaid, has_page, committed_with, IsEither};
 ghost use Rattle.redo_area.specs.Header.{kind_of};
 ghost use Rattle.redo_area.specs.File.{settled, IsArmed};
-ghost use Rattle.redo_area.specs.Arming.{IsCommit, IsWaiting, IsBeside};
+ghost use Rattle.redo_area.specs.Arming.{IsCommit, IsWaiting, HasRoomAt, IsBeside};
 
 use crate::area::RedoArea;
 use crate::settling::bring_home;
@@ -14,8 +14,31 @@ use crate::steps::{arm, arm_grown, arm_next};
 use page_io::Page;
 use sect_dev::{DevFault, SectorDev};
 
-/// The first page from `least` on where `count` pages fit beside those that hold what waits. There
-/// is none where no page waits.
+/// The first page from `least` on where `count` pages fit that meet none of those that hold what
+/// waits.
+pub fn room_beside(least: u32, count: usize, area: RedoArea, capacity: u32) -> Option<u32>
+    requires some { 0 < count }
+    requires within { area.start ≤ capacity }
+    ensures some { IfSome result (HasRoomAt least count area.start area.held capacity) }
+    ensures first { IfSome result (λ place. (other : ℕ)
+        → HasRoomAt least count area.start area.held capacity other → place ≤ other) }
+    ensures none { IfNone result ((other : ℕ)
+        → HasRoomAt least count area.start area.held capacity other → ⊥) }
+{
+    if count <= area.start.saturating_sub(least) as usize {
+        return Some(least);
+    }
+    if area.held > (capacity - area.start) as usize {
+        return None;
+    }
+    let place = least.max(area.start + area.held as u32);
+    if count > capacity.saturating_sub(place) as usize {
+        return None;
+    }
+    Some(place)
+}
+
+/// The same where some page waits. There is none where no page waits.
 pub fn place_beside(least: u32, count: usize, area: RedoArea, capacity: u32) -> Option<u32>
     requires some { 0 < count }
     requires within { area.start ≤ capacity }
@@ -28,17 +51,7 @@ pub fn place_beside(least: u32, count: usize, area: RedoArea, capacity: u32) -> 
     if area.held == 0 {
         return None;
     }
-    if count <= area.start.saturating_sub(least) as usize {
-        return Some(least);
-    }
-    if area.held > (capacity - area.start) as usize {
-        return None;
-    }
-    let place = least.max(area.start + area.held as u32);
-    if count > capacity.saturating_sub(place) as usize {
-        return None;
-    }
-    Some(place)
+    room_beside(least, count, area, capacity)
 }
 
 // So many new pages of a commit are written at their own numbers alone where no page waits.

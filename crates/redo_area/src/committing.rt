@@ -6,11 +6,11 @@ ghost use Rattle.page_io.specs.Page.{page_at};
 ghost use Rattle.page_io.specs.Store.{bytes_of, file_pages, overlaid, has_page, committed_with, IsEither};
 ghost use Rattle.redo_area.specs.File.{settled};
 ghost use Rattle.redo_area.specs.Settling.{SettlesToPages};
-ghost use Rattle.redo_area.specs.Arming.{IsCommit, IsWaiting, IsBeside, IsPlaced};
+ghost use Rattle.redo_area.specs.Arming.{IsCommit, IsWaiting, HasRoomAt, IsPlaced};
 ghost use Rattle.redo_area.specs.Ways.{IsWay};
 
 use crate::area::{LOG_PAGES, LogPlace, RedoArea};
-use crate::arming::{arm_over, place_beside};
+use crate::arming::{arm_over, room_beside};
 use crate::header::CommitKind;
 use crate::logging::{arm_log, log_on};
 use page_io::Page;
@@ -22,30 +22,30 @@ const MOST_LOGGED: usize = 15;
 // So many pages at least are left between the end and a log, into which the file grows.
 const LEAST_SLACK: u32 = 64;
 
-// How a commit is made.
+/// How a commit is made.
 #[derive(Clone, Copy)]
 pub enum Way {
-    // Over this one in the log that the commit sector names, with one sync.
+    /// Over this one in the log that the commit sector names, with one sync.
     Next(LogPlace),
-    // As the first one of a log from this page on, with two.
+    /// As the first one of a log from this page on, with two.
     First(u32),
-    // By redo images, with two syncs, or with four.
+    /// By redo images, with two syncs, or with four.
     Images,
 }
 
 // The page where a log may begin that the end of the file doesn't reach soon, or at all.
 fn place_of_log(least: u32, area: RedoArea, capacity: u32) -> Option<u32>
     requires within { area.start ≤ capacity }
-    ensures beside { IfSome result (IsBeside least 32 area.start area.held capacity) }
+    ensures room { IfSome result (HasRoomAt least 32 area.start area.held capacity) }
 {
     let slack = LEAST_SLACK.max(least / 8);
-    match place_beside(least.saturating_add(slack), LOG_PAGES, area, capacity) {
+    match room_beside(least.saturating_add(slack), LOG_PAGES, area, capacity) {
         Some(place) => Some(place),
-        None => place_beside(least, LOG_PAGES, area, capacity),
+        None => room_beside(least, LOG_PAGES, area, capacity),
     }
 }
 
-// How a commit of so many pages is made. A log begins with the second commit in a row.
+// How a commit of so many pages is made.
 fn way_of(area: RedoArea, old_end: u32, new_end: u32, count: usize, capacity: u32) -> Way
     requires within { area.start ≤ capacity }
     ensures way { IsWay area (max old_end new_end) new_end count capacity result }
@@ -74,7 +74,7 @@ pub struct Committed {
 }
 
 /// Makes a commit. Pages of the last one that still wait are brought home. A file whose commits may
-/// be in a log has those of 15 pages or fewer there, from the second one in a row on.
+/// be in a log has those of 15 pages or fewer there.
 pub fn commit_over<D: SectorDev>(
     dev: &mut D,
     area: RedoArea,

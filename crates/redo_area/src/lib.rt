@@ -14,9 +14,11 @@ mod open_fault;
 mod pager;
 mod reading;
 mod recovery;
+mod resuming;
 mod rewriting;
 mod settling;
 mod steps;
+mod turning;
 
 pub use converting::change_kind;
 pub use header::{CommitKind, Header, kind_of, read_header};
@@ -25,3 +27,4 @@ pub use open_fault::OpenFault;
 pub use pager::Pager;
 pub use reading::{SeenFile, read_log};
 pub use rewriting::write_back;
+pub use turning::change_turn;

@@ -1,9 +1,9 @@
 // Commits by a log, which the commit sector names.
-ghost use Rattle.std.specs.Prelude.{◌≡◌, ◌≤◌, ◌<◌, ◌+◌, ◌*◌, ◌/◌, ◌^◌, ℕ, length, max, true, OnOk};
+ghost use Rattle.std.specs.Prelude.{◌≡◌, ◌≤◌, ◌<◌, ◌+◌, ◌*◌, ◌/◌, ◌^◌, ℕ, length, max, true, false, OnOk};
 ghost use Rattle.sect_dev.specs.Device.{LeavesOnly};
 ghost use Rattle.page_io.specs.Calls.{IsDeviceCall};
 ghost use Rattle.page_io.specs.Page.{page_at};
-ghost use Rattle.page_io.specs.Store.{file_pages, overlaid, are_in_order, bytes_of, IsEither};
+ghost use Rattle.page_io.specs.Store.{file_pages, overlaid, are_in_order, has_page, bytes_of, IsEither};
 ghost use Rattle.commit_log.specs.Log.{IsLogged};
 ghost use Rattle.redo_area.specs.Header.{header_of, kind_of};
 ghost use Rattle.redo_area.specs.declared.header.CommitKind.TheVariants.{Log};
@@ -19,8 +19,8 @@ use page_io::Page;
 use sect_dev::{DevFault, SectorDev};
 
 /// A log begins over pages that wait since the last commit, which redo images hold or another log:
-/// with one sync they are on the disk at their own numbers, and the new ones in the log; then the
-/// commit sector names it.
+/// with one sync they are on the disk at their own numbers, but for those that the new ones replace,
+/// and the new ones in the log; then the commit sector names it.
 pub fn arm_log<D: SectorDev>(
     dev: &mut D,
     area: RedoArea,
@@ -53,7 +53,8 @@ pub fn arm_log<D: SectorDev>(
         → OnOk result (IsLogged new_end place 1 (4 * place) (4 * place + 64) (bytes_of pages.now)
         (D.candidate dev.new) (D.seen dev.new)) }
     ensures pages { D.honest dev.old
-        → OnOk result ((n : ℕ) → 0 < n → n < place → page_at (D.seen dev.new) n
+        → OnOk result ((n : ℕ) → 0 < n → n < place → has_page (bytes_of pages.now) n ≡ false
+        → page_at (D.seen dev.new) n
         ≡ overlaid (bytes_of waiting.now) (page_at (D.seen dev.old)) n) }
     ensures kind { D.honest dev.old
         → OnOk result (kind_of (D.seen dev.new 0) ≡ Log) }
@@ -103,7 +104,8 @@ pub fn log_on<D: SectorDev>(
         → OnOk result (IsLogged new_end start (log.number + 1) log.beside log.at
         (bytes_of pages.now) (D.candidate dev.new) (D.seen dev.new)) }
     ensures pages { D.honest dev.old
-        → OnOk result ((n : ℕ) → n < start → page_at (D.seen dev.new) n
+        → OnOk result ((n : ℕ) → n < start → has_page (bytes_of pages.now) n ≡ false
+        → page_at (D.seen dev.new) n
         ≡ overlaid (bytes_of waiting.now) (page_at (D.seen dev.old)) n) }
     ensures device { IsDeviceCall D.SectorDev dev.old dev.new result }
 {

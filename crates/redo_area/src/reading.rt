@@ -131,8 +131,9 @@ fn over_logs(alloc: Global, older: &FoundLog, newer: &FoundLog) -> Result<SeenFi
     })
 }
 
-/// Reads both slots of a log into memory. Damaged is the answer where neither says a commit, and
-/// Memory where it lacks for their pages, of which the first five take none.
+/// Reads both slots of a log into memory. Damaged is the answer where neither says a commit, or where
+/// the page numbers of a whole one are out of order, and Memory where it lacks for their pages, of
+/// which the first five take none.
 pub fn read_log<D: SectorDev>(alloc: Global, dev: &mut D, start: u32) -> Result<SeenFile, OpenFault>
     requires { 4 * start + 128 ≤ D.sectors dev.old }
     ensures found { D.honest dev.old
@@ -162,6 +163,9 @@ pub fn read_log<D: SectorDev>(alloc: Global, dev: &mut D, start: u32) -> Result<
         Ok(second) => second,
         Err(_) => return Err(OpenFault::Device),
     };
+    if first.is_disordered || second.is_disordered {
+        return Err(OpenFault::Damaged);
+    }
     if second.number < first.number {
         over_logs(alloc, &second, &first)
     } else {

@@ -1,5 +1,5 @@
 // The end of a commit that a stop cut short.
-ghost use Rattle.std.specs.Prelude.{◌≡◌, ◌≢◌, ◌≤◌, ◌<◌, ◌+◌, ◌*◌, ◌/◌, ◌↔◌, ℕ, List, true, false, IfOk, IfErr, OnOk, IsErrOf, IfSome, IfNone};
+ghost use Rattle.std.specs.Prelude.{◌≡◌, ◌≢◌, ◌≤◌, ◌<◌, ◌+◌, ◌*◌, ◌/◌, ◌↔◌, ℕ, List, true, false, IfOk, IfErr, OnOk, IsErrOf, Some, IfSome, IfNone};
 ghost use Rattle.sect_dev.specs.Device.{IsImageOf, IsStable, NoNewCandidate, MoreFaults, LeavesOnly};
 ghost use Rattle.page_io.specs.Calls.{IsDeviceCall};
 ghost use Rattle.page_io.specs.Page.{page_at, KeepsWhere};
@@ -7,7 +7,7 @@ ghost use Rattle.page_io.specs.Store.{file_of, nothing, file_pages, overlaid, ar
 ghost use Rattle.redo_area.specs.Header.{header_of, kind_of};
 ghost use Rattle.redo_area.specs.declared.header.Header.TheVariants.{Armed, Logging};
 ghost use Rattle.redo_area.specs.File.{settled, redo_images, SettlesAsBefore, IsOutsideAll, IsAtRest, IsArmed};
-ghost use Rattle.redo_area.specs.Opening.{IsRefused};
+ghost use Rattle.redo_area.specs.Opening.{refusal_of, IsRefused};
 
 use crate::OpenFault;
 use crate::header::{CommitKind, Header, clear_sector, kind_of, read_header};
@@ -131,7 +131,7 @@ fn check_images<D: SectorDev>(
 }
 
 /// Syncs, and reads the commit sector.
-fn sync_and_read<D: SectorDev>(dev: &mut D) -> Result<[u8; 512], DevFault>
+pub fn sync_and_read<D: SectorDev>(dev: &mut D) -> Result<[u8; 512], DevFault>
     requires { 0 < D.sectors dev.old }
     ensures any_moment { D.honest dev.old
         → LeavesOnly D.moment D.left_since dev.old dev.new (IsImageOf (D.candidate dev.old)) }
@@ -234,6 +234,54 @@ pub struct AtRest {
     pub kind: CommitKind,
 }
 
+/// Settles what a stop may have left of a device that was synced, by its commit sector.
+pub fn settle_found<D: SectorDev>(dev: &mut D, content: &[u8; 512]) -> Result<AtRest, OpenFault>
+    requires sectors { 16 ≤ D.sectors dev.old }
+    requires stable { D.honest dev.old → IsStable (D.candidate dev.old) (D.seen dev.old) }
+    requires read { D.honest dev.old → content.now ≡ D.seen dev.old 0 }
+
+    // Every image of every moment settles as the device does at the start.
+    ensures any_moment { D.honest dev.old → LeavesOnly D.moment D.left_since dev.old dev.new
+        (λ image. settled (D.sectors dev.old / 4) image
+        ≡ settled (D.sectors dev.old / 4) (D.seen dev.old)) }
+    ensures rest { D.honest dev.old
+        → IfOk result (λ rest. IsAtRest (D.sectors dev.old / 4) rest.end (D.candidate dev.new)
+        (D.seen dev.new)) }
+    ensures kind { D.honest dev.old
+        → IfOk result (λ rest. kind_of (D.seen dev.new 0) ≡ rest.kind) }
+    ensures end { IfOk result (λ rest. (4 ≤ rest.end) × (rest.end ≤ D.sectors dev.old / 4)) }
+
+    // Where it is refused nothing was changed, but for a fault of the device.
+    ensures refused { D.honest dev.old
+        → IfErr result (λ e. e ≢ OpenFault.Device
+        → IsStable (D.candidate dev.new) (D.seen dev.new) × (D.seen dev.new ≡ D.seen dev.old)
+        × (refusal_of (D.sectors dev.old / 4) (D.seen dev.old) ≡ Some e)) }
+    ensures cause { (D.faults dev.old ≤ D.faults dev.new)
+        × (IsErrOf result OpenFault.Device → MoreFaults (D.faults dev.old) (D.faults dev.new)) }
+    ensures no_memory { IfErr result (λ e. e ≢ OpenFault.Memory) }
+    ensures honesty { D.honest dev.new ↔ D.honest dev.old }
+    ensures size { D.sectors dev.new ≡ D.sectors dev.old }
+{
+    let capacity = dev.capacity() / 4;
+    let kind = kind_of(content);
+    match read_header(capacity, content) {
+        Header::Blank => Err(OpenFault::Blank),
+        Header::Clear { end } => Ok(AtRest { end, kind }),
+        Header::Armed { end, start, count } => match end_armed(dev, kind, end, start, count) {
+            Ok(true) => Ok(AtRest { end, kind }),
+            Ok(false) => Err(OpenFault::Damaged),
+            Err(_) => Err(OpenFault::Device),
+        },
+        Header::Logging { start } => match end_logging(dev, kind, start) {
+            Ok(Some(end)) => Ok(AtRest { end, kind }),
+            Ok(None) => Err(OpenFault::Damaged),
+            Err(_) => Err(OpenFault::Device),
+        },
+        Header::NotOurs => Err(OpenFault::NotOurs),
+        Header::Damaged => Err(OpenFault::Damaged),
+    }
+}
+
 /// Settles what a stop may have left.
 pub fn recover<D: SectorDev>(dev: &mut D) -> Result<AtRest, OpenFault>
     requires { 16 ≤ D.sectors dev.old }
@@ -259,26 +307,8 @@ pub fn recover<D: SectorDev>(dev: &mut D) -> Result<AtRest, OpenFault>
     ensures honesty { D.honest dev.new ↔ D.honest dev.old }
     ensures size { D.sectors dev.new ≡ D.sectors dev.old }
 {
-    let capacity = dev.capacity() / 4;
-    let content = match sync_and_read(dev) {
-        Ok(content) => content,
-        Err(_) => return Err(OpenFault::Device),
-    };
-    let kind = kind_of(&content);
-    match read_header(capacity, &content) {
-        Header::Blank => Err(OpenFault::Blank),
-        Header::Clear { end } => Ok(AtRest { end, kind }),
-        Header::Armed { end, start, count } => match end_armed(dev, kind, end, start, count) {
-            Ok(true) => Ok(AtRest { end, kind }),
-            Ok(false) => Err(OpenFault::Damaged),
-            Err(_) => Err(OpenFault::Device),
-        },
-        Header::Logging { start } => match end_logging(dev, kind, start) {
-            Ok(Some(end)) => Ok(AtRest { end, kind }),
-            Ok(None) => Err(OpenFault::Damaged),
-            Err(_) => Err(OpenFault::Device),
-        },
-        Header::NotOurs => Err(OpenFault::NotOurs),
-        Header::Damaged => Err(OpenFault::Damaged),
+    match sync_and_read(dev) {
+        Ok(content) => settle_found(dev, &content),
+        Err(_) => Err(OpenFault::Device),
     }
 }

@@ -8,9 +8,10 @@ use crate::header::{Header, read_header};
 use commit_log::write_log_back;
 use sect_dev::{DevFault, SectorDev};
 
-/// Has the next sync write the commit sector of a file once more, and the log that it names, with
-/// the bytes that a read gives. What is no file of ours is left as it is. Redo images are left too,
-/// since a commit sector is armed only once they are synced.
+/// Has the next sync write the commit sector of a file once more, and the log that it names with the
+/// pages at home that the older commit of it has, with the bytes that a read gives. What is no file
+/// of ours is left as it is. Redo images are left too, since a commit sector is armed only once they
+/// are synced.
 pub fn write_back<D: SectorDev>(dev: &mut D) -> Result<(), DevFault>
     requires { 16 ≤ D.sectors dev.old }
     ensures any_moment { D.honest dev.old
@@ -23,25 +24,11 @@ pub fn write_back<D: SectorDev>(dev: &mut D) -> Result<(), DevFault>
     let mut content = [0; 512];
     dev.read(0, &mut content)?;
     match read_header(capacity, &content) {
-        Header::Clear { .. } | Header::Armed { .. } => rewrite(dev),
+        Header::Clear { .. } | Header::Armed { .. } => dev.write(0, &content),
         Header::Logging { start } => {
-            write_log_back(dev, start)?;
-            rewrite(dev)
+            dev.write(0, &content)?;
+            write_log_back(dev, start)
         }
         Header::Blank | Header::NotOurs | Header::Damaged => Ok(()),
     }
-}
-
-// Has the next sync write the first sector once more, with the bytes that a read gives.
-fn rewrite<D: SectorDev>(dev: &mut D) -> Result<(), DevFault>
-    requires { 0 < D.sectors dev.old }
-    ensures any_moment { D.honest dev.old
-        → LeavesOnly D.moment D.left_since dev.old dev.new (IsImageOf (D.candidate dev.old)) }
-    ensures candidates { D.honest dev.old
-        → NoNewCandidate (D.candidate dev.old) (D.candidate dev.new) }
-    ensures device { IsDeviceCall D.SectorDev dev.old dev.new result }
-{
-    let mut content = [0; 512];
-    dev.read(0, &mut content)?;
-    dev.write(0, &content)
 }

@@ -1,15 +1,16 @@
 // The steps of a commit.
-ghost use Rattle.std.specs.Prelude.{◌≡◌, ◌≤◌, ◌<◌, ◌+◌, ◌*◌, ◌/◌, ℕ, List, length, max, true, OnOk, slice_index_or, []};
+ghost use Rattle.std.specs.Prelude.{◌≡◌, ◌≤◌, ◌<◌, ◌+◌, ◌*◌, ◌/◌, ◌^◌, ℕ, List, length, max, true, false, OnOk, slice_index_or, []};
 ghost use Rattle.sect_dev.specs.Device.{IsImageOf, IsStable, with_sector, with_candidate, LeavesOnly};
 ghost use Rattle.page_io.specs.Calls.{IsDeviceCall};
 ghost use Rattle.page_io.specs.Page.{page_at, own_number, IsOutside, KeepsWhere};
-ghost use Rattle.page_io.specs.Store.{file_of, pages_from, file_pages, overlaid, are_in_order, bytes_of, IsEither};
+ghost use Rattle.page_io.specs.Store.{file_of, pages_from, file_pages, overlaid, are_in_order, has_page, bytes_of, IsEither};
 ghost use Rattle.redo_area.specs.Header.{kind_of};
 ghost use Rattle.redo_area.specs.File.{settled, IsOutsideAll, IsAtRest, IsArmed, HoldsWaiting};
 ghost use Rattle.redo_area.specs.Arming.{IsCommit, HasRoomAt};
 
 use crate::area::RedoArea;
 use crate::header::{CommitKind, armed_sector, clear_sector};
+use commit_log::{write_homes, write_homes_but};
 use page_io::{Page, write_page};
 use sect_dev::{DevFault, SectorDev};
 
@@ -35,29 +36,6 @@ fn write_images<D: SectorDev>(dev: &mut D, start: u32, pages: &[Page]) -> Result
     for page in pages {
         write_page(dev, n, page)?;
         n += 1;
-    }
-    Ok(())
-}
-
-/// Writes each page at its own number.
-fn write_homes<D: SectorDev>(dev: &mut D, pages: &[Page]) -> Result<(), DevFault>
-    requires { (k : ℕ) → k < length pages.now
-        → 4 * own_number (slice_index_or (bytes_of pages.now) k []) + 4 ≤ D.sectors dev.old }
-    ensures any_moment { D.honest dev.old
-        → LeavesOnly D.moment D.left_since dev.old dev.new
-        (KeepsWhere (D.candidate dev.old) (IsOutsideAll (bytes_of pages.now))) }
-    ensures candidates { D.honest dev.old → (m : ℕ) (c : List ℕ)
-        → IsOutsideAll (bytes_of pages.now) m → D.candidate dev.new m c → D.candidate dev.old m c }
-    ensures others { D.honest dev.old
-        → OnOk result ((m : ℕ) → IsOutsideAll (bytes_of pages.now) m
-        → D.seen dev.new m ≡ D.seen dev.old m) }
-    ensures written { D.honest dev.old
-        → OnOk result ((n : ℕ) → page_at (D.seen dev.new) n
-        ≡ overlaid (bytes_of pages.now) (page_at (D.seen dev.old)) n) }
-    ensures device { IsDeviceCall D.SectorDev dev.old dev.new result }
-{
-    for page in pages {
-        write_page(dev, page.own(), page)?;
     }
     Ok(())
 }
@@ -114,6 +92,30 @@ fn put_homes<D: SectorDev>(dev: &mut D, pages: &[Page]) -> Result<(), DevFault>
     ensures device { IsDeviceCall D.SectorDev dev.old dev.new result }
 {
     write_homes(dev, pages)?;
+    dev.sync()
+}
+
+/// The same of pages of which newer ones wait: those that these have too stay as they are, since the
+/// redo images of the newer ones stand over them, and those of the older ones until then.
+fn put_homes_but<D: SectorDev>(dev: &mut D, pages: &[Page], newer: &[Page]) -> Result<(), DevFault>
+    requires room { (k : ℕ) → k < length pages.now
+        → 4 * own_number (slice_index_or (bytes_of pages.now) k []) + 4 ≤ D.sectors dev.old }
+    requires order { are_in_order 1 (2 ^ 32) (bytes_of newer.now) ≡ true }
+    ensures any_moment { D.honest dev.old
+        → LeavesOnly D.moment D.left_since dev.old dev.new
+        (KeepsWhere (D.candidate dev.old) (IsOutsideAll (bytes_of pages.now))) }
+    ensures others { D.honest dev.old
+        → OnOk result ((m : ℕ) → IsOutsideAll (bytes_of pages.now) m
+        → D.seen dev.new m ≡ D.seen dev.old m) }
+    ensures written { D.honest dev.old
+        → OnOk result ((n : ℕ) → has_page (bytes_of newer.now) n ≡ false
+        → page_at (D.seen dev.new) n
+        ≡ overlaid (bytes_of pages.now) (page_at (D.seen dev.old)) n) }
+    ensures stable { D.honest dev.old
+        → OnOk result (IsStable (D.candidate dev.new) (D.seen dev.new)) }
+    ensures device { IsDeviceCall D.SectorDev dev.old dev.new result }
+{
+    write_homes_but(dev, pages, newer)?;
     dev.sync()
 }
 
@@ -189,8 +191,8 @@ pub fn disarm<D: SectorDev>(
 }
 
 /// Steps 3 and 1 with one sync, then step 2: the pages that wait since the last commit are on the
-/// disk at their own numbers, those of the next one as redo images beside theirs, and the commit
-/// sector is armed over the new images.
+/// disk at their own numbers, but for those that the next one has too; the pages of the next one are
+/// there as redo images beside theirs, and the commit sector is armed over the new images.
 pub fn arm_next<D: SectorDev>(
     dev: &mut D,
     area: RedoArea,
@@ -220,7 +222,8 @@ pub fn arm_next<D: SectorDev>(
         → OnOk result (IsArmed (D.sectors dev.old / 4) new_end place (bytes_of pages.now)
         (D.candidate dev.new) (D.seen dev.new)) }
     ensures pages { D.honest dev.old
-        → OnOk result ((n : ℕ) → 0 < n → n < place → page_at (D.seen dev.new) n
+        → OnOk result ((n : ℕ) → 0 < n → n < place → has_page (bytes_of pages.now) n ≡ false
+        → page_at (D.seen dev.new) n
         ≡ overlaid (bytes_of waiting.now) (page_at (D.seen dev.old)) n) }
     ensures kind { D.honest dev.old
         → OnOk result (kind_of (D.seen dev.new 0) ≡ area.kind) }
@@ -228,7 +231,7 @@ pub fn arm_next<D: SectorDev>(
 {
     let count = pages.len() as u32;
     write_images(dev, place, pages)?;
-    put_homes(dev, waiting)?;
+    put_homes_but(dev, waiting, pages)?;
     put_header(dev, &armed_sector(area.kind, new_end, place, count))?;
     Ok(())
 }

@@ -13,7 +13,7 @@ use Rattle.dbm_model.specs.Members as members
 use Rattle.dbm_model.specs.Members.{Members}
 use Rattle.dbm_model.specs.Sessions as model
 use Rattle.dbm_model.specs.Sessions.{Disk, Plan, StoppedOpening, StoppedCall, StoppedGroup, Rests, CutShort, Breaks, Groups, GroupCutShort, SessionStep}
-use Rattle.redo_area.specs.File.{IsAtRest}
+use Rattle.redo_area.specs.Opening.{IsClosed}
 use Rattle.dbm_fault.specs.Faults.{fault_of}
 use Rattle.dbm_fault.specs.declared.fault.Fault.{Fault}
 use Rattle.dbm_fault.specs.declared.fault.Fault.TheVariants.{Device}
@@ -102,10 +102,10 @@ IfGrouped (Rested replies stored) P = P stored
 IfGrouped (Unsettled replies stored) P = P stored
 IfGrouped ending P = Unit {0}
 
--- all is on the disk, and no commit on its way
+-- all is on the disk, and no commit on its way, but for one in a log
 abbrev pub IsSettled : {D : Type 0} → Ghosts D → D → Type 0
 IsSettled bound dev =
-    (end : ℕ) × IsAtRest (bound.sectors dev / 4) end (bound.candidate dev) (bound.seen dev)
+    (end : ℕ) × IsClosed (bound.sectors dev / 4) end (bound.candidate dev) (bound.seen dev)
 
 -- why an honest device was not opened: what is asked can't be had of a device of its size; a call
 -- of it failed; or an image that it had at the start is refused so

@@ -1,7 +1,7 @@
 // On what a handle holds: calls that give bytes.
 ghost use Rattle.std.specs.Prelude.{◌≡◌, ◌≢◌, ◌≤◌, pos, take};
 ghost use Rattle.dbm_model.specs.Calls.{Fetch, First, Next};
-ghost use Rattle.ndbm_c.specs.Held.{OnOpen, Calls};
+ghost use Rattle.ndbm_c.specs.Held.{OnOpen, Calls, Resumes};
 
 use crate::handle::Open;
 use dbm_file::Fault;
@@ -48,6 +48,20 @@ impl Open {
     {
         match self {
             Open::Database(opened) => ndbm_calls::nextkey(&mut opened.db, out, length),
+            _ => refusal(Fault::Broken),
+        }
+    }
+
+    /// Has the pass stand behind this key: 0.
+    pub(crate) fn resume(&mut self, key: &[u8]) -> i32
+        ensures answered { OnOpen self.old self.new result
+            (Resumes key.now result) }
+    {
+        match self {
+            Open::Database(opened) => {
+                opened.db.resume(key);
+                0
+            },
             _ => refusal(Fault::Broken),
         }
     }

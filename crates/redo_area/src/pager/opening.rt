@@ -4,7 +4,7 @@ ghost use Rattle.sect_dev.specs.Device.{Image, IsImageOf, LeavesOnly};
 ghost use Rattle.page_io.specs.Store.{bytes_of, blank, file_of};
 ghost use Rattle.redo_area.specs.File.{settled, SettlesAsBefore, IsBlankOr};
 ghost use Rattle.redo_area.specs.Settling.{SettlesTo};
-ghost use Rattle.redo_area.specs.Opening.{refusal_of, SaysUnsettled, IsFresh, IsRefused, HasOpenCause};
+ghost use Rattle.redo_area.specs.Opening.{refusal_of, SaysUnsettled, IsClosed, IsFresh, IsRefused, HasOpenCause};
 ghost use Rattle.redo_area.specs.Header.{kind_of};
 ghost use Rattle.redo_area.specs.Pagers.{device_of, device_after, kind_at};
 ghost use Rattle.sect_dev.specs.Reads.{OnlyReads};
@@ -12,7 +12,7 @@ ghost use Rattle.sect_dev.specs.Reads.{OnlyReads};
 use crate::area::RedoArea;
 use crate::format::format_pages;
 use crate::reading::read_file;
-use crate::recovery::recover;
+use crate::resuming::resume;
 use crate::{CommitKind, OpenFault, Pager};
 use page_io::{Page, PageStore, StagedPages};
 use sect_dev::SectorDev;
@@ -70,10 +70,11 @@ impl<D: SectorDev> Pager<D> {
         })
     }
 
-    /// Opens a device that a stop may have left. For writing, a commit that waits is ended first,
-    /// and no memory is taken. For reading alone, nothing is written and nothing is synced: its
-    /// pages are read into memory, from redo images or a log, and stand in the place of those that
-    /// they name.
+    /// Opens a device that a stop or a closing may have left. For writing, it is synced, and a log
+    /// whose newest commit alone waits is taken over; any other commit that waits is ended first, as
+    /// that log is where memory lacks for its pages. For reading alone, nothing is written and
+    /// nothing is synced: the pages that wait are read into memory, from redo images or a log, and
+    /// stand in the place of those that they name.
     pub fn open(alloc: Global, dev: D, writable: bool) -> Result<Pager<D>, (D, OpenFault)>
         requires { 16 ≤ D.sectors dev }
 
@@ -109,7 +110,7 @@ impl<D: SectorDev> Pager<D> {
         ensures kind { D.honest dev
             → IfOk result (λ pager. kind_of (D.seen (device_of pager) 0) ≡ kind_at pager) }
 
-        // Memory is taken for redo images and logs alone, and never for writing.
+        // Memory is lacking for redo images and logs alone, and never for writing.
         ensures memory { D.honest dev
             → IfErr result (λ e. e.1 ≡ OpenFault.Memory
             → SaysUnsettled (D.sectors dev / 4) (D.seen dev)) }
@@ -120,13 +121,13 @@ impl<D: SectorDev> Pager<D> {
     {
         let mut dev = dev;
         if writable {
-            return match recover(&mut dev) {
-                Ok(rest) => Ok(Pager {
+            return match resume(alloc, &mut dev) {
+                Ok(file) => Ok(Pager {
                     dev,
                     staged: StagedPages::new(alloc),
-                    waiting: StagedPages::new(alloc),
-                    area: RedoArea::empty(rest.kind, rest.end),
-                    end: rest.end,
+                    waiting: file.waiting,
+                    area: file.area,
+                    end: file.end,
                     usable: true,
                     writable: true,
                 }),
@@ -145,6 +146,19 @@ impl<D: SectorDev> Pager<D> {
             }),
             Err(fault) => Err((dev, fault)),
         }
+    }
+
+    /// Whether the pages of the last commit stand in a log, where the next opening for writing may
+    /// go on.
+    pub fn is_in_log(&self) -> bool
+        ensures log { result ≡ true → D.honest (device_of self.now)
+            → (⟦<Pager<D> as PageStore>⟧.state self.now).usable ≡ true
+            → (⟦<Pager<D> as PageStore>⟧.state self.now).writable ≡ true
+            → IsClosed (D.sectors (device_of self.now) / 4)
+            (⟦<Pager<D> as PageStore>⟧.state self.now).end
+            (D.candidate (device_of self.now)) (D.seen (device_of self.now)) }
+    {
+        self.area.log.is_some()
     }
 
     /// How the file's commits are made.

@@ -2,7 +2,7 @@ use Rattle.std.proofs.Common.{◌≡◌, length, sym, ◌∙◌, ap, arith}
 use Rattle.sect_dev.specs.Device.{part_of}
 use Rattle.page_io.specs.Store.{are_in_order}
 use Rattle.commit_log.specs.Log.{Log, slot_of}
-use Rattle.commit_log.proofs.Finds.{same_slots}
+use Rattle.commit_log.proofs.Finds.{same_slots, same_disorder}
 use Rattle.commit_log.proofs.Redone.{good_log}
 use Rattle.commit_log.proofs.recovering.read_slot.Goals as goal
 
@@ -12,6 +12,15 @@ returns-clause-found g c honest =
     let long : length c.read_run.new.out ≡ 31232 = omega arith in
     c.find_log.ensures.found
     ∙ same_slots c.args.start (part_of c.read_run.new.out)
+    (slot_of (g.D.SectorDev.seen c.args.dev.now) c.args.at)
+    (λ k lt. sym (run k (omega (arith, lt, long))))
+
+pub returns-clause-disordered : goal.returns-clause-disordered
+returns-clause-disordered g c honest =
+    let run = c.in_ok-read_run.ensures.read honest in
+    let long : length c.read_run.new.out ≡ 31232 = omega arith in
+    c.find_log.ensures.disordered
+    ∙ same_disorder c.args.start (part_of c.read_run.new.out)
     (slot_of (g.D.SectorDev.seen c.args.dev.now) c.args.at)
     (λ k lt. sym (run k (omega (arith, lt, long))))
 

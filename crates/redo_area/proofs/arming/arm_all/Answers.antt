@@ -1,7 +1,7 @@
 use Rattle.std.proofs.Common.{refl, ◌∙◌, arith}
 use Rattle.page_io.specs.Page.{page_at}
 use Rattle.page_io.specs.Store.{bytes_of, file_pages, overlaid}
-use Rattle.page_io.proofs.Overlays.{same_file, overlaid-over}
+use Rattle.page_io.proofs.Overlays.{same_file, overlaid-over, apart-has_page}
 use Rattle.redo_area.proofs.Images.{same_new}
 use Rattle.redo_area.proofs.Armings.{beside, behind}
 use Rattle.redo_area.proofs.Kept.{new_pages}
@@ -28,7 +28,8 @@ returns-in-Some-clause-pages g c honest =
     same_file (overlaid pages new) (overlaid pages home) c.args.new_end
     (λ n ge lt. overlaid-over pages home new n
     (λ apart. c.in_ok-arm_next.ensures.pages honest n ge
-    (omega (arith, lt, c.in-Some.ensures.some.fits.behind, c.max-least.ensures))))
+    (omega (arith, lt, c.in-Some.ensures.some.fits.behind, c.max-least.ensures))
+    (apart-has_page pages n apart)))
     ∙ new_pages (file_pages home c.args.old_end) home c.args.old_end refl c.args.new_end pages pages
     refl c.requires.grown
 

@@ -3,7 +3,7 @@ use Rattle.std.proofs.lemmas.List.{length-take-le, take_all}
 use Rattle.page_io.specs.Page.{page_at}
 use Rattle.page_io.specs.Store.{bytes_of, file_pages, overlaid}
 use Rattle.page_io.specs.declared.page.Page.{Page}
-use Rattle.page_io.proofs.Overlays.{same_file, overlaid-over}
+use Rattle.page_io.proofs.Overlays.{same_file, overlaid-over, apart-has_page}
 use Rattle.commit_log.specs.Log.{IsLogged}
 use Rattle.redo_area.specs.Header.{kind_of}
 use Rattle.redo_area.specs.declared.area.LogPlace.{LogPlace}
@@ -11,7 +11,7 @@ use Rattle.redo_area.specs.declared.area.RedoArea.{RedoArea}
 use Rattle.redo_area.specs.Settling.{SettlesToPages, waits_at}
 use Rattle.redo_area.specs.Arming.{IsPlaced}
 use Rattle.redo_area.proofs.Armings.{beside}
-use Rattle.redo_area.proofs.Holding.{images_hold}
+use Rattle.redo_area.proofs.Holding.{images_hold, may_hold}
 use Rattle.redo_area.proofs.Kept.{new_pages}
 use Rattle.redo_area.proofs.LogCommits.{waits_in_log, log_placed, no_other}
 use Rattle.redo_area.proofs.committing.commit_over.Goals as goal
@@ -64,7 +64,7 @@ returns-in_ok-log_on-in-Next-clause-pages g c honest =
     ∙ same_file (overlaid pages new) (overlaid pages home) c.args.new_end
     (λ n ge lt. overlaid-over pages home new n
     (λ apart. c.in_ok-log_on-in-Next.ensures.pages honest n
-    (omega (arith, lt, c.in-Next.ensures.way.2))))
+    (omega (arith, lt, c.in-Next.ensures.way.2)) (apart-has_page pages n apart)))
     ∙ new_pages (file_pages home c.args.old_end) home c.args.old_end refl c.args.new_end pages pages
     refl c.requires.grown
 
@@ -83,6 +83,10 @@ returns-in_ok-log_on-in-Next-clause-placed g c =
     }))
 
 -- in a log that begins
+pub arm_log-requires-clause-held : goal.arm_log-requires-clause-held
+arm_log-requires-clause-held g c honest =
+    may_hold (c.requires.waiting.waits honest) c.requires.waiting.least
+
 pub returns-in_err-arm_log-in-First-clause-any_moment : goal.returns-in_err-arm_log-in-First-clause-any_moment
 returns-in_err-arm_log-in-First-clause-any_moment g c honest =
     beside g.D.SectorDev c.args.dev.now c.arm_log.new.dev c.args.old_end c.args.new_end
@@ -118,7 +122,7 @@ returns-in_ok-arm_log-in-First-clause-pages g c honest =
     ∙ same_file (overlaid pages new) (overlaid pages home) c.args.new_end
     (λ n ge lt. overlaid-over pages home new n
     (λ apart. c.in_ok-arm_log-in-First.ensures.pages honest n ge
-    (omega (arith, lt, c.in-First.ensures.way.1.fits.behind))))
+    (omega (arith, lt, c.in-First.ensures.way.1.behind)) (apart-has_page pages n apart)))
     ∙ new_pages (file_pages home c.args.old_end) home c.args.old_end refl c.args.new_end pages pages
     refl c.requires.grown
 

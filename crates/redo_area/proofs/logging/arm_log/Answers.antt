@@ -9,7 +9,7 @@ use Rattle.commit_log.proofs.StillLogged.{still_logged}
 use Rattle.redo_area.specs.declared.header.CommitKind.TheVariants.{Log}
 use Rattle.redo_area.specs.Header.{header_of}
 use Rattle.redo_area.proofs.Headers.{says_logging, kind_seen}
-use Rattle.redo_area.proofs.Images.{below_end}
+use Rattle.commit_log.proofs.Outside.{below_end}
 use Rattle.redo_area.proofs.LogRuns.{log_written, log_named}
 use Rattle.redo_area.proofs.logging.arm_log.Goals as goal
 
@@ -79,10 +79,10 @@ returns-clause-pages g c honest =
     let dev = g.D.SectorDev in
     let h1 = c.log_first.ensures.device.honesty.1 honest in
     let log = dev.seen c.log_first.new.dev in
-    λ n pos lt. ap (λ (s : Image). page_at s n) (c.in_ok-put_header.ensures.seen h1)
+    λ n pos lt none. ap (λ (s : Image). page_at s n) (c.in_ok-put_header.ensures.seen h1)
     ∙ same_page (with_sector log 0 c.logging_sector.result) log n
     (λ m ge4 lt4. at_other log 0 c.logging_sector.result m (omega (arith, pos, ge4)))
-    ∙ c.in_ok-log_first.ensures.pages honest n lt
+    ∙ c.in_ok-log_first.ensures.pages honest n lt none
 
 pub returns-clause-kind : goal.returns-clause-kind
 returns-clause-kind g c honest =

@@ -13,7 +13,7 @@ use Rattle.redo_area.specs.Opening.{refusal_of}
 use Rattle.redo_area.specs.declared.open_fault.OpenFault.{OpenFault}
 use Rattle.redo_area.specs.declared.open_fault.OpenFault.TheVariants.{Memory, Device, Blank, NotOurs, Damaged}
 use Rattle.redo_area.proofs.Openings.{below_room, says_armed, found-clear, found-armed, refused-blank, refused-not_ours, refused-damaged, refused-armed, found-logging, refused-logging}
-use Rattle.redo_area.proofs.ReadRuns.{sector_read, more_reads}
+use Rattle.commit_log.proofs.ReadRuns.{sector_read, more_reads}
 use Rattle.redo_area.proofs.Results.{from_test, fault_from_test, other_fault, ok_then, err_then}
 use Rattle.redo_area.proofs.reading.read_file.Goals as goal
 

@@ -7,8 +7,8 @@ use Rattle.page_io.specs.declared.page.Page.{Page}
 use Rattle.page_io.proofs.Overlays.{pages_more}
 use Rattle.page_io.proofs.StagedPages.{AllBelow-push, AllBelow-wider}
 use Rattle.page_io.proofs.Exits.{no_err, later_then, more_later, both_ways}
-use Rattle.redo_area.proofs.Orders.{not_in_order, one_in_order, none_left, all_read, order_push}
-use Rattle.redo_area.proofs.ReadRuns.{none_yet, one_more}
+use Rattle.commit_log.proofs.Orders.{not_in_order, one_in_order, none_left, all_read, order_push}
+use Rattle.commit_log.proofs.ReadRuns.{none_yet, one_more}
 use Rattle.redo_area.specs.declared.open_fault.OpenFault.TheVariants.{Memory, Device, Damaged}
 use Rattle.redo_area.proofs.Results.{from_test, fault_from_test, other_fault}
 use Rattle.redo_area.proofs.reading.read_images.Goals as goal

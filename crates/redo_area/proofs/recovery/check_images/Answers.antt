@@ -5,7 +5,7 @@ use Rattle.sect_dev.specs.Moments.{followed_by}
 use Rattle.page_io.specs.Page.{page_at, own_number}
 use Rattle.page_io.specs.Store.{pages_from, are_in_order}
 use Rattle.page_io.proofs.Exits.{later_then, both_ways}
-use Rattle.redo_area.proofs.Orders.{not_in_order, one_in_order, none_left}
+use Rattle.commit_log.proofs.Orders.{not_in_order, one_in_order, none_left}
 use Rattle.redo_area.proofs.Results.{cause_after, cause_ok}
 use Rattle.redo_area.proofs.recovery.check_images.Goals as goal
 use Rattle.redo_area.proofs.recovery.check_images.Goals.{then-own-least-via-then-own-least, then-own-least-via-else-own-least+then-from-own}

@@ -8,9 +8,9 @@ use Rattle.page_io.proofs.Overlays.{overlaid-push, pages_more, get_or-pages_from
 use Rattle.page_io.specs.Counts.{length-pages_from}
 use Rattle.page_io.proofs.StagedPages.{in_range}
 use Rattle.redo_area.specs.File.{redo_images, IsOutsideAll}
-use Rattle.redo_area.proofs.Images.{outside_at, outside-above}
-use Rattle.redo_area.proofs.WriteRuns.{Keeps, none_written, keeps_on, home_more}
-use Rattle.redo_area.proofs.ReadRuns.{read_on}
+use Rattle.commit_log.proofs.Outside.{outside_at, outside-above}
+use Rattle.commit_log.proofs.WriteRuns.{Keeps, none_written, keeps_on, home_more}
+use Rattle.commit_log.proofs.ReadRuns.{read_on}
 use Rattle.redo_area.proofs.recovery.copy_images.Goals as goal
 use Rattle.redo_area.proofs.recovery.copy_images.Goals.{then-own-lt1-via-then-own-lt1, then-own-lt1-via-else-own-lt1+then-end-own}
 
@@ -189,7 +189,7 @@ loop-i-preserved g c =
           home_more (dev.seen c.read_page.new.dev) (dev.seen c.write_page.new.dev)
           (overlaid so_far home) page c.own-own.result c.own-own.ensures.number
           (c.in_ok-write_page.ensures.written h2)
-          (w.others h2) (λ k. ap (λ (s : Image). page_at s k) (r.seen h1) ∙ inv.written h k) n
+          (w.others h2) n (ap (λ (s : Image). page_at s n) (r.seen h1) ∙ inv.written h n)
           ∙ sym (ap (λ (ps : Pages). overlaid ps home n)
           (pages_more home c.args.start c.loop-i.i
           ∙ ap (λ (p : List ℕ). so_far ++ p ∷ []) (sym bytes))

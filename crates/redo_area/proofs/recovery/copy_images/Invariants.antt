@@ -2,7 +2,7 @@ use Rattle.std.proofs.Common.{◌≡◌, ℕ}
 use Rattle.page_io.specs.Page.{page_at}
 use Rattle.page_io.specs.Store.{overlaid, pages_from}
 use Rattle.redo_area.specs.File.{redo_images, IsOutsideAll}
-use Rattle.redo_area.proofs.WriteRuns.{Keeps}
+use Rattle.commit_log.proofs.WriteRuns.{Keeps}
 use Rattle.redo_area.proofs.recovery.copy_images.Given as goal
 
 abbrev pub invariant-loop-i : goal.invariant-loop-i

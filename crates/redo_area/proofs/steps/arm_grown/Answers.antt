@@ -8,7 +8,8 @@ use Rattle.page_io.proofs.PageLaws.{same_page, at_other}
 use Rattle.page_io.proofs.StagedPages.{order_wider}
 use Rattle.redo_area.specs.Header.{header_of}
 use Rattle.redo_area.proofs.Headers.{says_armed, kind_seen}
-use Rattle.redo_area.proofs.Images.{below_end, now_armed}
+use Rattle.commit_log.proofs.Outside.{below_end}
+use Rattle.redo_area.proofs.Images.{now_armed}
 use Rattle.redo_area.proofs.GrownRuns.{new_leave, images_follow, grown_leaves}
 use Rattle.redo_area.proofs.steps.arm_grown.Goals as goal
 

@@ -5,7 +5,8 @@ use Rattle.page_io.specs.Page.{page_at, own_number}
 use Rattle.page_io.specs.Store.{file_pages, bytes_of}
 use Rattle.page_io.specs.declared.page.Page.{Page}
 use Rattle.redo_area.proofs.Headers.{says_clear, kind_seen}
-use Rattle.redo_area.proofs.Images.{now_clear, rest_after, below_end}
+use Rattle.commit_log.proofs.Outside.{below_end}
+use Rattle.redo_area.proofs.Images.{now_clear, rest_after}
 use Rattle.redo_area.proofs.CommitRuns.{homes_leave, clear_leaves}
 use Rattle.redo_area.proofs.steps.disarm.Goals as goal
 

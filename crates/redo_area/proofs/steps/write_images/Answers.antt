@@ -4,7 +4,7 @@ use Rattle.page_io.proofs.PageLaws.{same_page}
 use Rattle.page_io.specs.Store.{Pages, bytes_of}
 use Rattle.page_io.proofs.Overlays.{same_pages, pages_more}
 use Rattle.page_io.proofs.PageLists.{bytes_more}
-use Rattle.redo_area.proofs.WriteRuns.{none_written, keeps_on}
+use Rattle.commit_log.proofs.WriteRuns.{none_written, keeps_on}
 use Rattle.redo_area.proofs.steps.write_images.Goals as goal
 
 -- a sector of none of the pages in a row is none of the page at an index

@@ -1,7 +1,7 @@
 use Rattle.std.proofs.Common.{◌≡◌, ◌+◌, ◌*◌, length, take}
 use Rattle.page_io.specs.Page.{page_at, IsOutside}
 use Rattle.page_io.specs.Store.{pages_from, bytes_of}
-use Rattle.redo_area.proofs.WriteRuns.{Keeps}
+use Rattle.commit_log.proofs.WriteRuns.{Keeps}
 use Rattle.redo_area.proofs.steps.write_images.Given as goal
 
 abbrev pub invariant-loop-page : goal.invariant-loop-page

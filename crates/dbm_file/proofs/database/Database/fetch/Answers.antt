@@ -5,7 +5,7 @@ use Rattle.page_io.specs.Views.{body_at}
 use Rattle.dbm_file.specs.Database.{meta_kept}
 use Rattle.dbm_file.specs.Fetching.{content_in}
 use Rattle.dbm_file.specs.Rooms.{longest_content}
-use Rattle.dbm_file.specs.declared.database.Found.TheVariants.{Near, Far}
+use Rattle.dbm_file.specs.declared.database.Found.TheVariants.{Far}
 use Rattle.dbm_file.proofs.Cases.{broken_fetch}
 use Rattle.dbm_file.proofs.ContentSteps.{near_short, found_in}
 use Rattle.dbm_file.proofs.FetchSteps.{fetched_well, fetch_failed, met_damage, met_want, only_these, load_faults}

@@ -8,7 +8,7 @@ use Rattle.page_io.specs.declared.page.Page.{Page}
 use Rattle.redo_area.specs.Arming.{IsPlaced}
 use Rattle.redo_area.specs.Settling.{quarter_fits}
 use Rattle.redo_area.proofs.Kept.{not_found, not_staged, read_leaves, unasked}
-use Rattle.redo_area.proofs.ReadRuns.{none_yet}
+use Rattle.commit_log.proofs.ReadRuns.{none_yet}
 use Rattle.redo_area.proofs.Results.{from_test}
 use Rattle.redo_area.proofs.StillSettles.{reads_still}
 use Rattle.redo_area.proofs.pager.PagerPageStore.read.Goals as goal

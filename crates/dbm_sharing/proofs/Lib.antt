@@ -1,0 +1,16 @@
+pub mod Anew
+pub mod Cuts
+pub mod Examples
+pub mod Going
+pub mod PassViews
+pub mod PeriodLemmas
+pub mod ReplyLemmas
+pub mod Rules
+pub mod Sample
+pub mod SharedChanges
+pub mod SharedPasses
+pub mod ViewLemmas
+pub mod WholeViews
+pub mod WriterLemmas
+pub mod Writers
+pub mod WrongChains

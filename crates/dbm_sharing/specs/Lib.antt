@@ -1,0 +1,11 @@
+pub mod Anew
+pub mod Changes
+pub mod Examples
+pub mod Going
+pub mod Handles
+pub mod PassViews
+pub mod Periods
+pub mod Replies
+pub mod Views
+pub mod WholeViews
+pub mod Writers
