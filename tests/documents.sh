@@ -129,7 +129,7 @@ prefix=$work/usr
 cmp -s "$page" "$prefix/share/man/man1/dbmtool.1" || wrong "the manual page isn't installed"
 cmp -s "$top/completions/dbmtool.bash" "$prefix/share/bash-completion/completions/dbmtool" || wrong "bash's completion isn't installed"
 cmp -s "$zsh" "$prefix/share/zsh/site-functions/_dbmtool" || wrong "zsh's completion isn't installed"
-[ "$(find "$prefix" -type f | wc -l)" = 4 ] || wrong "another file is installed"
+[ "$(find "$prefix" -type f | wc -l)" = 7 ] || wrong "another file is installed"
 touch "$prefix/bin/another"
 "$top/install" --remove "$prefix" || wrong "./install --remove failed"
 [ "$(find "$prefix" -type f)" = "$prefix/bin/another" ] || { wrong "left behind:"; find "$prefix" -type f; }
