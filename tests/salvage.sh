@@ -122,6 +122,22 @@ salvaged "61 $a"
 truncate -s 512 t.db && cp t.db damaged.db
 salvaged
 
+# ---- the system fails to read a page, each in turn: it is told, and all other pages are printed. The first read is of the commit sector.
+preloadable fail
+rule='a read that fails'
+"$program" create unread --limit 100 && for key in 61 62 63 64 65; do echo "$key $(content 1500 $((0x$key * 9)))"; done > five &&
+  "$program" load unread < five || exit 1
+FAIL_CALL=0 LD_PRELOAD=./fail.so "$program" salvage unread > out 2> err
+reads=$(sed -n 's/^calls //p' err) pages=$("$program" stat unread | sed -n 's/^pages //p')
+cmp -s out five && [ "$reads" = "$pages" ] || wrong "$rule: $(wc -l < out) lines of 5, with $reads reads of $pages pages"
+for ((n = 2; n <= reads; n++)); do
+  status=0
+  FAIL_CALL=$n LD_PRELOAD=./fail.so "$program" salvage unread > out 2> err || status=$?
+  [ "$status $(head -n 1 err)" = "2 dbmtool: page $((n - 1)): the system failed to read it" ] || wrong "$rule: read $n, status $status, $(head -c 200 err)"
+  # a page of a pair is none of the first three
+  [ "$(comm -12 five out | wc -l)" = $((n > 3 ? 4 : 5)) ] && [ -z "$(comm -13 five out)" ] || wrong "$rule: read $n, other lines"
+done
+
 # ---- a whole file: the same pairs as a dump, and a load of them gives that dump
 "$program" create many --limit 2000 || exit 1
 for n in {1..1000}; do printf 'S %04x %08x\n' "$n" $((n * n)); done | "$program" script many > out || exit 1
