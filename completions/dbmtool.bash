@@ -21,7 +21,7 @@ _dbmtool_places() {
 }
 
 _dbmtool() {
-  local commands='create store insert fetch delete list dump load stat verify upgrade resize backup salvage script rehearse faults help'
+  local commands='create store insert fetch delete list dump load stat verify version upgrade resize backup salvage script rehearse faults help'
   local word=${COMP_WORDS[COMP_CWORD]} options='' places own
   COMPREPLY=()
   # The program's own options stand before the command.
@@ -57,7 +57,7 @@ _dbmtool() {
     load) options='--group --limit --replace --text -h --help' ;;
     resize) options='--limit -h --help' ;;
     upgrade) options='--syncs -h --help' ;;
-    stat | verify | backup | salvage | faults) options='-h --help' ;;
+    stat | verify | version | backup | salvage | faults) options='-h --help' ;;
   esac
   places=$(_dbmtool_places)
   case $word,$places,${COMP_WORDS[1]} in

@@ -160,11 +160,11 @@ lets_go() {
   pid=
 }
 
-# is_refused WORDS..: the tool answers fault 2 at once, and the file stays
+# is_refused WORDS..: the tool, which doesn't wait, answers fault 2 at once, and the file stays
 is_refused() {
   local status began=$SECONDS
   cp t.db before
-  timeout 20 "$program" "$@" < /dev/null > out 2> err
+  timeout 20 "$program" --wait 0 "$@" < /dev/null > out 2> err
   status=$?
   [ "$status" = 2 ] && [ "$(cat err)" = 'dbmtool: fault 2' ] && [ ! -s out ] ||
     wrong "beside the library, $*: status $status, $(cat err), $(head -c 80 out)"

@@ -40,6 +40,7 @@ run 2 '' 'dbmtool: fault 14\n' insert missing a b
 run 2 '' 'dbmtool: fault 14\n' delete missing a
 run 2 '' 'dbmtool: fault 14\n' stat missing
 run 2 '' 'dbmtool: fault 14\n' verify missing
+run 2 '' 'dbmtool: fault 14\n' version missing
 run 2 '' 'dbmtool: fault 14\n' upgrade missing
 [ ! -e missing.db ] || wrong "a file was made"
 
@@ -55,6 +56,55 @@ run 0 '' '' store pages c "$long"
 run 0 'pairs 2\nlimit 100\nbuckets 1\nlevel 0\nsplit 0\npages 5\nfree 0\n' '' stat pages
 run 0 "$long\n" '' fetch pages a
 run 0 '2\n' '' verify pages
+
+# The version of a file and the syncs of its kind, in each of both as it is made, by the program and by the bytes of the format, and as upgrades and
+# pairs leave it. The file stays as it is.
+# tells NAME VERSION SYNCS: `version` prints these
+tells() {
+  cp "$1.db" before
+  run 0 "version $2\nsyncs $3\n" '' version "$1"
+  cmp -s "$1.db" before || wrong "dbmtool version $1 changed the file"
+}
+for made in '1 2' '1 1 --syncs 1' '1 2 --syncs 2' '2 2 --v2' '2 1 --v2 --syncs 1' '2 2 --syncs 2 --v2'; do
+  read -r version syncs options <<< "$made"
+  # shellcheck disable=SC2086
+  run 0 '' '' create kinds --limit 100 $options
+  [ "$(head -c 8 kinds.db) $(od -An -tu1 -j 2064 -N 4 kinds.db | xargs)" = "DBMREDO$((3 - syncs)) 0 0 0 $version" ] ||
+    wrong "create $options makes another file"
+  tells kinds "$version" "$syncs"
+  run 0 '' '' store kinds a b
+  tells kinds "$version" "$syncs"
+  run 0 '' '' upgrade kinds --syncs 1
+  tells kinds "$version" 1
+  run 0 '' '' store kinds c d
+  run 0 '' '' store kinds c e
+  tells kinds "$version" 1
+  run 0 '' '' upgrade kinds
+  tells kinds 2 1
+  run 0 '' '' upgrade kinds --syncs 2
+  tells kinds 2 2
+  run 0 '' '' upgrade kinds
+  tells kinds 2 2
+  run 0 'b\n' '' fetch kinds a
+  rm kinds.db
+  # shellcheck disable=SC2086
+  run 0 '' '' create kinds --limit 100 $options
+  run 0 '' '' upgrade kinds
+  tells kinds 2 "$syncs"
+  rm kinds.db
+done
+[ ! -e kinds.db.new ] || wrong "a file is left"
+printf hello > text.db && : > empty.db && head -c 8192 /dev/zero > blank.db
+for name in text empty blank; do
+  cp $name.db before
+  run 2 '' 'dbmtool: fault 10\n' version $name
+  cmp -s $name.db before || wrong "$name.db was changed"
+done
+run 2 '' 'dbmtool: fault 2\ndbmtool: .db: Is a directory (os error 21)\n' --verbose version "$(mkdir .db)"
+"$program" version t > /dev/full 2> err; [ "$? $(cat err)" = '2 dbmtool: write' ] || wrong "a full output isn't told: $(cat err)"
+# each version has its word: that of the program, and that of a file
+[ "$("$program" --version)" = "$("$program" -V)" ] && "$program" --version | grep -q '^dbmtool ' || wrong "--version tells something else"
+tells t 1 2
 
 # A script in which the device fails within a change goes on, each later change is refused as that of a broken database, and
 # the fault of closing is told: one that an earlier change left, or its own, and then each change is there.

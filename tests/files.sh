@@ -99,7 +99,7 @@ grep -q -- '--unknown' <("$program" --unknown 2>&1) || wrong "usage doesn't name
 
 # help names each command, and ends with an example
 "$program" --help > out || bad=1
-for command in create store insert fetch delete list dump load stat verify upgrade script rehearse faults; do
+for command in create store insert fetch delete list dump load stat verify version upgrade script rehearse faults; do
   grep -qw "$command" out || wrong "the help has no $command"
   "$program" "$command" --help > command.out || wrong "no help of $command"
   grep -q "dbmtool $command" command.out || wrong "the help of $command has no example"

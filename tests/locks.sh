@@ -31,11 +31,11 @@ lists_on() {
   [ -n "$line" ] || { echo "the listing has no first line"; exit 1; }
 }
 
-# is_refused WORDS..: fault 2, with nothing printed and the file as it was
+# is_refused WORDS..: fault 2 where it isn't waited, with nothing printed and the file as it was
 is_refused() {
   local status
   cp t.db before
-  "$program" "$@" < /dev/null > out 2> err
+  "$program" --wait 0 "$@" < /dev/null > out 2> err
   status=$?
   [ "$status" = 2 ] || wrong "$*: status $status, and not 2"
   [ "$(cat err)" = 'dbmtool: fault 2' ] || wrong "$*: it says '$(cat err)'"
@@ -57,7 +57,7 @@ answers() {
 
 # beside a writer
 writes_on
-for command in list dump stat verify load script rehearse; do is_refused "$command" t; done
+for command in list dump stat version verify load script rehearse salvage; do is_refused "$command" t; done
 is_refused fetch t k
 is_refused store t a b
 is_refused insert t a b
@@ -84,6 +84,7 @@ for n in $(seq 4000); do printf '%032x 76\n' "$n"; done | "$program" load t || e
 lists_on
 answers 0 v fetch t k
 answers 1 '' fetch t absent
+answers 0 $'version 1\nsyncs 2' version t
 is_refused store t a c
 is_refused create t
 left=$(wc -l <&"$from")
@@ -98,11 +99,17 @@ answers 0 c fetch t a
 preloadable replace
 "$program" create next --limit 100 && "$program" store next k new && cp next.db new.db && ln t.db old.db && cp t.db before || exit 1
 status=0
-REPLACE=t.db REPLACE_BY=next.db LD_PRELOAD=./replace.so "$program" store t k lost > out 2> err || status=$?
+REPLACE=t.db REPLACE_BY=next.db LD_PRELOAD=./replace.so "$program" --wait 0 store t k lost > out 2> err || status=$?
 [ "$status $(cat err)" = '2 dbmtool: fault 2' ] || wrong "a store in a file that was replaced: status $status, $(cat err)"
 cmp -s t.db new.db && cmp -s old.db before || wrong "a store in a file that was replaced changes one of the two"
 answers 0 '' store t k stored
 answers 0 stored fetch t k
+# where it is waited, the file that has the name then is opened
+cp new.db next.db && cp t.db before && ln -f t.db old.db || exit 1
+REPLACE=t.db REPLACE_BY=next.db LD_PRELOAD=./replace.so "$program" store t k later 2> err || wrong "a store that waits in a file that was replaced: $(cat err)"
+cmp -s old.db before || wrong "a store that waits changes a file that was replaced"
+answers 0 later fetch t k
+answers 0 '' store t k stored
 cp new.db next.db
 REPLACE=t.db REPLACE_BY=next.db LD_PRELOAD=./replace.so "$program" fetch t k > out 2> err && [ "$(cat out)" = stored ] || wrong "a file that was replaced isn't read: $(cat err)"
 [ "$bad" = 0 ]

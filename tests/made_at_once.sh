@@ -48,7 +48,7 @@ cc -shared -fPIC -O1 -o meet.so meet.c -ldl || exit 1
 # wins ME OTHER HOW: one of two that make the file, with a limit of its own; the one that has made it stores a pair
 wins() {
   local status=0 tries
-  MEET=$3 MEET_ME=met.$1 MEET_OTHER=met.$2 LD_PRELOAD=./meet.so "$program" create t --limit $((100 + $1)) > "out.$1" 2> "err.$1" < /dev/null || status=$?
+  MEET=$3 MEET_ME=met.$1 MEET_OTHER=met.$2 LD_PRELOAD=./meet.so "$program" --wait 0 create t --limit $((100 + $1)) > "out.$1" 2> "err.$1" < /dev/null || status=$?
   echo "$status" > "status.$1"
   [ "$status" = 0 ] || return 0
   # the other one may have the file open for a moment

@@ -1,5 +1,5 @@
 #!/usr/bin/env bash
-# Commands that read: stat, dump, verify, list, fetch, rehearse and script --read answer what the file has, and leave it to the byte as it was, beside a lock that is
+# Commands that read: stat, version, dump, verify, list, fetch, rehearse and script --read answer what the file has, and leave it to the byte as it was, beside a lock that is
 # shared, beside another one that reads, on a file and in a folder that may not be written, and on a file system that is mounted for reading alone.
 # So they do on a file whose last commit was cut short when its pages weren't in their places. Commands that write are refused there by fault 2.
 . "$(dirname "$0")/common"
@@ -32,11 +32,11 @@ reads() {
   [ "$(stat -c '%i %s %y %z' "$folder/$name.db")" = "$kept" ] && cmp -s "$folder/$name.db" before || wrong "$where, $*: the file has changed"
 }
 
-# refuses WHERE NAME WORD..: a command is refused by fault 2, and the file stays
+# refuses WHERE NAME WORD..: a command that doesn't wait is refused by fault 2, and the file stays
 refuses() {
   local where=$1 name=$2 status=0
   shift 2
-  (cd "$folder" && "${as[@]}" "$tool" "$@") < calls > out 2> err || status=$?
+  (cd "$folder" && "${as[@]}" "$tool" --wait 0 "$@") < calls > out 2> err || status=$?
   [ "$status $(cat err)" = '2 dbmtool: fault 2' ] && [ ! -s out ] || wrong "$where, $*: status $status, $(head -c 100 err)"
   [ "$(stat -c '%i %s %y %z' "$folder/$name.db")" = "$kept" ] && cmp -s "$folder/$name.db" before || wrong "$where, $*: the file has changed"
 }
@@ -70,6 +70,8 @@ all_read() {
   echo 'S 6b 76' > calls
   (cd "$folder" && "${as[@]}" "$tool" stat "$name") > stated 2> err || wrong "$1, stat $name: status $?, $(cat err)"
   [ "$(head -n 2 stated)" = "pairs $pairs"$'\n''limit 3100' ] || wrong "$1, stat $name: $(head -n 2 stated | xargs)"
+  (cd "$folder" && "${as[@]}" "$tool" version "$name") > kinds 2> err || wrong "$1, version $name: status $?, $(cat err)"
+  [ "$(cat kinds)" = $'version 1\nsyncs 2' ] || wrong "$1, version $name: $(xargs < kinds)"
   (cd "$folder" && "${as[@]}" "$tool" rehearse "$name" --stops 2) < calls > rehearsed 2> err || wrong "$1, rehearse $name: status $?, $(cat err)"
   [ "$(head -n 1 rehearsed) $(tail -n 1 rehearsed)" = 'calls 1 kept 2' ] || wrong "$1, rehearse $name: $(xargs < rehearsed)"
   [ "$(stat -c '%i %s %y %z' "$folder/$name.db")" = "$kept" ] && cmp -s "$folder/$name.db" before || wrong "$1: the file has changed"

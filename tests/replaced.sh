@@ -213,7 +213,7 @@ cp t.db before
 is old t || wrong "while it is replaced a table can't be read"
 input=new ends 2 'dbmtool: fault 2' load --replace t
 input=/dev/null ends 2 'dbmtool: fault 2' resize t
-input=/dev/null ends 2 'dbmtool: fault 2' store t a b
+input=/dev/null ends 2 'dbmtool: fault 2' --wait 0 store t a b
 input=/dev/null ends 0 '' backup t c
 is old c || wrong "while it is replaced a table is not copied"
 cmp -s t.db before || wrong "while it is replaced a table changes"

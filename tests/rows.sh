@@ -420,6 +420,9 @@ fetch t|<KEY>
 fetch t k -x -x|-x
 list|<FILE>
 upgrade|<FILE>
+version|<FILE>
+version t t|'t'
+version t --v2|'--v2'
 upgrade t --v2|'--v2'
 dump t --memory 5|'--memory'
 dump t --group 5|'--group'
@@ -456,7 +459,7 @@ for words in --help -h help; do
   runs "$words"
   [ "$status" = 0 ] && [ ! -s err ] && grep -A1 '^Example:' out | grep -q '^  dbmtool create' || wrong "dbmtool $words"
 done
-commands='create store insert fetch delete list dump load stat verify upgrade resize backup salvage script'
+commands='create store insert fetch delete list dump load stat verify version upgrade resize backup salvage script'
 for command in $commands; do
   grep -qE "^  $command " out || wrong "the help doesn't name $command"
 done
@@ -470,5 +473,5 @@ for line in 'S KEY CONTENT' 'I KEY CONTENT' 'F KEY' 'D KEY' 1 N E C; do
 done
 
 echo "$rows rows"
-[ "$rows" = 465 ] || wrong "not each row was read"
+[ "$rows" = 468 ] || wrong "not each row was read"
 exit $bad

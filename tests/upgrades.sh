@@ -22,7 +22,7 @@ as=() tool=$program
 # refused FAULT NAME: an upgrade is refused by this fault, and the file stays as it is
 refused() {
   cp "$2.db" before
-  ends 2 "dbmtool: fault $1" upgrade "$2"
+  ends 2 "dbmtool: fault $1" --wait 0 upgrade "$2"
   cmp -s "$2.db" before || wrong "an upgrade that is refused by fault $1 changed the file"
 }
 

@@ -69,7 +69,7 @@ tells 'dbmtool: fault 13' 'a limit outside 1 to 1000000: take one within' script
 tells 'dbmtool: fault 13' 'a limit outside 1 to 1000000: take one within' rehearse --memory 1000001
 
 # each command that has a file names it
-for words in 'store none a b' 'insert none a b' 'fetch none a' 'delete none a' 'list none' 'dump none' 'load none' 'stat none' 'verify none' 'upgrade none' 'script none' 'rehearse none'; do
+for words in 'store none a b' 'insert none a b' 'fetch none a' 'delete none a' 'list none' 'dump none' 'load none' 'stat none' 'version none' 'verify none' 'upgrade none' 'script none' 'rehearse none'; do
   # shellcheck disable=SC2086
   tells 'dbmtool: fault 14' 'none.db: there is no such file: look at the name, or use `dbmtool create`' $words
 done
@@ -83,8 +83,8 @@ tells 'dbmtool: fault 2' 'folder.db: Is a directory (os error 21)' rehearse fold
 # another program has it open
 exec 9<> t.db
 flock -n 9 || exit 1
-tells 'dbmtool: fault 2' 't.db: another program has the file open' fetch t key
-tells 'dbmtool: fault 2' 't.db: another program has the file open' store t key new
+tells 'dbmtool: fault 2' 't.db: another program has the file open' --wait 0 fetch t key
+tells 'dbmtool: fault 2' 't.db: another program has the file open' --wait 0 store t key new
 exec 9>&-
 
 # each read, write and sync of a store fails in turn

@@ -6,7 +6,7 @@ use crate::aside::{Aside, give_up, own_as};
 use crate::naming::{Names, above_standard, found_at, names_of};
 use crate::stop::Stop;
 use crate::verified::Verified;
-use dbm_file::{Fault, refuse_pipe};
+use dbm_file::{Fault, Refusal, refuse_pipe};
 use dbm_progress::Progress;
 use std::alloc::Global;
 use std::fs::{File, Metadata, TryLockError};
@@ -14,34 +14,36 @@ use std::io::{self, ErrorKind};
 use std::os::unix::fs::{FileExt, MetadataExt};
 use std::rt::Files;
 
-/// Copies the table of one name to another name, at which there is none, and answers how many pairs
-/// it has. The source, the file `FILE.db`, is locked for reading. Its bytes are copied into
-/// `TO.db.new`, with its owner and its mode; the copy is synced, opened for reading and looked
-/// through, gets the name `TO.db`, and the folder is synced.
-///
-/// `Missing` where the source isn't there, `Exists` where the copy's name is, which then stays as
-/// it is: a copy that is damaged or older is never lost before there is another, since no name is
-/// given twice. `Device` where a writer has the source open, or another process makes that copy.
-/// Then what an opening for reading and `verify` are refused by.
-pub fn backup<T: Files<File = File>, P: Progress>(
+/// The file of a table that is to be copied, with a lock that other readers share.
+#[derive(Drop)]
+pub struct Source {
+    file: File,
+}
+
+/// Opens the table of this name, the file `FILE.db`, to be copied. `Missing` where it isn't there,
+/// and `Device` with an error of the kind `WouldBlock` where a writer has it open.
+pub fn open_source<T: Files<File = File>>(
     rt: &T,
     alloc: Global,
     file: &str,
-    to: &str,
-    progress: &mut P,
-) -> Result<u32, Stop>
-    ensures { IfErr result (λ stop. IsOfDatabase stop.fault) }
-{
-    let from = names_of(alloc, file)?;
-    let source = open_source(rt, &from.file)?;
-    copy_to(rt, alloc, &source, to, progress)
+) -> Result<Source, Refusal> {
+    match locked_source(rt, alloc, file) {
+        Ok(file) => Ok(Source { file }),
+        Err(stop) => Err(stop.refusal()),
+    }
 }
 
-/// Copies the source, which is open, to another name, at which there is none.
-fn copy_to<T: Files<File = File>, P: Progress>(
+/// Copies a table to another name, at which there is none, and answers how many pairs it has. The
+/// bytes of the source are copied into `TO.db.new`, with its owner and its mode; the copy is synced,
+/// opened for reading and looked through, gets the name `TO.db`, and the folder is synced.
+///
+/// `Exists` where the copy's name is there, which then stays as it is: a copy that is damaged or
+/// older is never lost before there is another, since no name is given twice. `Device` where another
+/// process makes that copy. Then what an opening for reading and `verify` are refused by.
+pub fn backup<T: Files<File = File>, P: Progress>(
     rt: &T,
     alloc: Global,
-    source: &File,
+    source: &Source,
     to: &str,
     progress: &mut P,
 ) -> Result<u32, Stop>
@@ -50,7 +52,7 @@ fn copy_to<T: Files<File = File>, P: Progress>(
     let to = names_of(alloc, to)?;
     refuse_existing(rt, &to.file)?;
     let aside = Aside::make(rt, &to.aside)?;
-    let done = copy_aside(rt, alloc, source, aside, &to, progress);
+    let done = copy_aside(rt, alloc, &source.file, aside, &to, progress);
     if done.is_err() {
         give_up(rt, &to.aside);
     }
@@ -68,11 +70,12 @@ fn refuse_existing<T: Files<File = File>>(rt: &T, path: &str) -> Result<(), Stop
 }
 
 /// Opens the file of a table, with a lock that other readers share.
-fn open_source<T: Files<File = File>>(rt: &T, path: &str) -> Result<File, Stop>
+fn locked_source<T: Files<File = File>>(rt: &T, alloc: Global, file: &str) -> Result<File, Stop>
     ensures { IfErr result (λ stop. IsOfDatabase stop.fault) }
 {
-    refuse_pipe(rt, path)?;
-    let source = match File::open(rt, path) {
+    let names = names_of(alloc, file)?;
+    refuse_pipe(rt, &names.file)?;
+    let source = match File::open(rt, &names.file) {
         Err(error) if error.kind() == ErrorKind::NotFound => {
             return Err(Stop::from(Fault::Missing));
         }

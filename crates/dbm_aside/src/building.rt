@@ -8,7 +8,7 @@ use crate::naming::{Names, found_at, names_of};
 use crate::stop::Stop;
 use crate::verified::{Verified, opened};
 use dbm_fault::EngineFault;
-use dbm_file::{Access, CommitKind, Db, Fault, OpenHow, Version, open_named};
+use dbm_file::{Access, CommitKind, Db, Fault, OpenHow, Refusal, Version, open_named};
 use dbm_progress::Progress;
 use sect_dev::FileDev;
 use std::alloc::Global;
@@ -27,9 +27,25 @@ pub struct Building {
     mode: u32,
 }
 
-/// Makes an empty table beside the one of this name, of its version and of this limit, or of its
-/// own where none is given. `Missing` where the table isn't there, before anything is made.
-pub fn build<T: Files<File = File>>(
+/// Makes an empty table in `NAME.db.new` beside the one of this name, which is opened for reading:
+/// of its version, its kind, its owner and its mode, and of this limit, or of its own where none is
+/// given. `Missing` where the table isn't there, before anything is made; `Device` with an error of
+/// the kind `WouldBlock` where a writer has it open, or another process builds beside it; then what
+/// an opening for reading is refused by, and `BadLimit` of a limit outside 1 to 1,000,000.
+pub fn begin_building<T: Files<File = File>>(
+    rt: &T,
+    alloc: Global,
+    file: &str,
+    limit: Option<u32>,
+) -> Result<Building, Refusal> {
+    match build(rt, alloc, file, limit) {
+        Ok(building) => Ok(building),
+        Err(stop) => Err(stop.refusal()),
+    }
+}
+
+/// As `begin_building`. What was made is taken away where it is refused.
+fn build<T: Files<File = File>>(
     rt: &T,
     alloc: Global,
     file: &str,

@@ -13,7 +13,8 @@ mod replacing;
 mod stop;
 mod verified;
 
-pub use backing::backup;
+pub use backing::{Source, backup, open_source};
+pub use building::{Building, begin_building};
 pub use copying::copy_engine;
 pub use filling::fill;
 pub use looking::look_through;

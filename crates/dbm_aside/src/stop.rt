@@ -17,6 +17,23 @@ pub struct Stop {
     pub system: Option<io::Error>,
 }
 
+impl Stop {
+    /// As the refusal of an opening, which has a fault of a database.
+    pub(crate) fn refusal(self) -> Refusal
+        ensures fault { (fault : Fault) → self.fault ≡ Db fault → result.fault ≡ fault }
+        ensures cause { result.system ≡ self.system }
+    {
+        let fault = match self.fault {
+            EngineFault::Db(fault) => fault,
+            _ => Fault::Memory,
+        };
+        Refusal {
+            fault,
+            system: self.system,
+        }
+    }
+}
+
 impl From<io::Error> for Stop {
     ghost from_gives = { λ error stop. IsOfDatabase stop.fault × (stop.system ≡ Some error) };
 

@@ -100,7 +100,7 @@ fn synced<T: Files<File = File>>(
     made: &File,
     mode: u32,
 ) -> io::Result<FileDev> {
-    made.set_permissions(Permissions::from_mode(mode & 0o7777))?;
+    made.set_permissions(Permissions::from_mode(mode & 0o777))?;
     made.sync_all()?;
     let dev = device_of(rt, path, false)?;
     if is_under(rt, made, path)? {

@@ -182,12 +182,12 @@ option_added old a r app rule was given adds =
 abbrev lines_on : Shape → List Shape → App
 lines_on top lines = record { top = record top { is_leaf = false }; subs = lines }
 
--- seventeen subcommands, one after another; the steps are put together for any lines, since written
+-- eighteen subcommands, one after another; the steps are put together for any lines, since written
 -- out they are long
-pub seventeen_lines_added : {E : Type 0} (top : Shape)
-    (l1 l2 l3 l4 l5 l6 l7 l8 l9 l10 l11 l12 l13 l14 l15 l16 l17 : Shape)
-    (c0 c1 c2 c3 c4 c5 c6 c7 c8 c9 c10 c11 c12 c13 c14 c15 c16
-    s1 s2 s3 s4 s5 s6 s7 s8 s9 s10 s11 s12 s13 s14 s15 s16 s17 r : Result Command E)
+pub eighteen_lines_added : {E : Type 0} (top : Shape)
+    (l1 l2 l3 l4 l5 l6 l7 l8 l9 l10 l11 l12 l13 l14 l15 l16 l17 l18 : Shape)
+    (c0 c1 c2 c3 c4 c5 c6 c7 c8 c9 c10 c11 c12 c13 c14 c15 c16 c17 s1 s2 s3 s4 s5 s6 s7 s8 s9 s10
+    s11 s12 s13 s14 s15 s16 s17 s18 r : Result Command E)
     → IfOk c0 (λ c. IsApp c (alone top))
     → IfOk s1 (λ s. IsApp s (alone l1)) → Adds c0 s1 c1
     → IfOk s2 (λ s. IsApp s (alone l2)) → Adds c1 s2 c2
@@ -205,17 +205,18 @@ pub seventeen_lines_added : {E : Type 0} (top : Shape)
     → IfOk s14 (λ s. IsApp s (alone l14)) → Adds c13 s14 c14
     → IfOk s15 (λ s. IsApp s (alone l15)) → Adds c14 s15 c15
     → IfOk s16 (λ s. IsApp s (alone l16)) → Adds c15 s16 c16
-    → IfOk s17 (λ s. IsApp s (alone l17)) → Adds c16 s17 r
+    → IfOk s17 (λ s. IsApp s (alone l17)) → Adds c16 s17 c17
+    → IfOk s18 (λ s. IsApp s (alone l18)) → Adds c17 s18 r
     → IfOk r (λ c. IsApp c (record {
       top = record top { is_leaf = false };
       subs =
-          l1 ∷ l2 ∷ l3 ∷ l4 ∷ l5 ∷ l6 ∷ l7 ∷ l8 ∷ l9 ∷ l10 ∷ l11 ∷ l12 ∷ l13 ∷ l14 ∷ l15 ∷ l16 ∷
-          l17 ∷ [];
+          l1 ∷ l2 ∷ l3 ∷ l4 ∷ l5 ∷ l6 ∷ l7 ∷ l8 ∷ l9 ∷ l10 ∷ l11 ∷ l12 ∷ l13 ∷ l14 ∷ l15 ∷ l16 ∷ l17
+          ∷ l18 ∷ [];
     }))
-seventeen_lines_added top l1 l2 l3 l4 l5 l6 l7 l8 l9 l10 l11 l12 l13 l14 l15 l16 l17 c0 c1 c2 c3 c4
-    c5 c6 c7 c8 c9 c10 c11 c12 c13 c14 c15 c16 s1 s2 s3 s4 s5 s6 s7 s8 s9 s10 s11 s12 s13 s14 s15
-    s16 s17 r p0 p1 a1 p2 a2 p3 a3 p4 a4 p5 a5 p6 a6 p7 a7 p8 a8 p9 a9 p10 a10 p11 a11 p12 a12 p13
-    a13 p14 a14 p15 a15 p16 a16 p17 a17 =
+eighteen_lines_added top l1 l2 l3 l4 l5 l6 l7 l8 l9 l10 l11 l12 l13 l14 l15 l16 l17 l18 c0 c1 c2
+    c3 c4 c5 c6 c7 c8 c9 c10 c11 c12 c13 c14 c15 c16 c17 s1 s2 s3 s4 s5 s6 s7 s8 s9 s10 s11 s12 s13
+    s14 s15 s16 s17 s18 r p0 p1 a1 p2 a2 p3 a3 p4 a4 p5 a5 p6 a6 p7 a7 p8 a8 p9 a9 p10 a10 p11 a11
+    p12 a12 p13 a13 p14 a14 p15 a15 p16 a16 p17 a17 p18 a18 =
     let with_1 : IfOk c1 (λ c. IsApp c
     (lines_on top (l1 ∷ []))) =
     a1 (alone top) l1 p0 p1 in
@@ -251,8 +252,8 @@ seventeen_lines_added top l1 l2 l3 l4 l5 l6 l7 l8 l9 l10 l11 l12 l13 l14 l15 l16
     a11 (lines_on top (l1 ∷ l2 ∷ l3 ∷ l4 ∷ l5 ∷ l6 ∷ l7 ∷ l8 ∷ l9 ∷ l10 ∷ [])) l11 with_10 p11 in
     let with_12 : IfOk c12 (λ c. IsApp c
     (lines_on top (l1 ∷ l2 ∷ l3 ∷ l4 ∷ l5 ∷ l6 ∷ l7 ∷ l8 ∷ l9 ∷ l10 ∷ l11 ∷ l12 ∷ []))) =
-    a12 (lines_on top (l1 ∷ l2 ∷ l3 ∷ l4 ∷ l5 ∷ l6 ∷ l7 ∷ l8 ∷ l9 ∷ l10 ∷ l11 ∷ [])) l12 with_11
-    p12 in
+    a12 (lines_on top (l1 ∷ l2 ∷ l3 ∷ l4 ∷ l5 ∷ l6 ∷ l7 ∷ l8 ∷ l9 ∷ l10 ∷ l11 ∷ [])) l12 with_11 p12
+    in
     let with_13 : IfOk c13 (λ c. IsApp c
     (lines_on top (l1 ∷ l2 ∷ l3 ∷ l4 ∷ l5 ∷ l6 ∷ l7 ∷ l8 ∷ l9 ∷ l10 ∷ l11 ∷ l12 ∷ l13 ∷ []))) =
     a13 (lines_on top (l1 ∷ l2 ∷ l3 ∷ l4 ∷ l5 ∷ l6 ∷ l7 ∷ l8 ∷ l9 ∷ l10 ∷ l11 ∷ l12 ∷ [])) l13
@@ -260,8 +261,8 @@ seventeen_lines_added top l1 l2 l3 l4 l5 l6 l7 l8 l9 l10 l11 l12 l13 l14 l15 l16
     let with_14 : IfOk c14 (λ c. IsApp c
     (lines_on top (l1 ∷ l2 ∷ l3 ∷ l4 ∷ l5 ∷ l6 ∷ l7 ∷ l8 ∷ l9 ∷ l10 ∷ l11 ∷ l12 ∷ l13 ∷ l14 ∷ [])))
     =
-    a14 (lines_on top (l1 ∷ l2 ∷ l3 ∷ l4 ∷ l5 ∷ l6 ∷ l7 ∷ l8 ∷ l9 ∷ l10 ∷ l11 ∷ l12 ∷ l13 ∷ []))
-    l14 with_13 p14 in
+    a14 (lines_on top (l1 ∷ l2 ∷ l3 ∷ l4 ∷ l5 ∷ l6 ∷ l7 ∷ l8 ∷ l9 ∷ l10 ∷ l11 ∷ l12 ∷ l13 ∷ [])) l14
+    with_13 p14 in
     let with_15 : IfOk c15 (λ c. IsApp c
     (lines_on top (l1 ∷ l2 ∷ l3 ∷ l4 ∷ l5 ∷ l6 ∷ l7 ∷ l8 ∷ l9 ∷ l10 ∷ l11 ∷ l12 ∷ l13 ∷ l14 ∷ l15 ∷
     []))) =
@@ -272,5 +273,10 @@ seventeen_lines_added top l1 l2 l3 l4 l5 l6 l7 l8 l9 l10 l11 l12 l13 l14 l15 l16
     l16 ∷ []))) =
     a16 (lines_on top (l1 ∷ l2 ∷ l3 ∷ l4 ∷ l5 ∷ l6 ∷ l7 ∷ l8 ∷ l9 ∷ l10 ∷ l11 ∷ l12 ∷ l13 ∷ l14 ∷
     l15 ∷ [])) l16 with_15 p16 in
+    let with_17 : IfOk c17 (λ c. IsApp c
+    (lines_on top (l1 ∷ l2 ∷ l3 ∷ l4 ∷ l5 ∷ l6 ∷ l7 ∷ l8 ∷ l9 ∷ l10 ∷ l11 ∷ l12 ∷ l13 ∷ l14 ∷ l15 ∷
+    l16 ∷ l17 ∷ []))) =
     a17 (lines_on top (l1 ∷ l2 ∷ l3 ∷ l4 ∷ l5 ∷ l6 ∷ l7 ∷ l8 ∷ l9 ∷ l10 ∷ l11 ∷ l12 ∷ l13 ∷ l14 ∷
-    l15 ∷ l16 ∷ [])) l17 with_16 p17
+    l15 ∷ l16 ∷ [])) l17 with_16 p17 in
+    a18 (lines_on top (l1 ∷ l2 ∷ l3 ∷ l4 ∷ l5 ∷ l6 ∷ l7 ∷ l8 ∷ l9 ∷ l10 ∷ l11 ∷ l12 ∷ l13 ∷ l14 ∷
+    l15 ∷ l16 ∷ l17 ∷ [])) l18 with_17 p18

@@ -5,7 +5,7 @@ use Rattle.std.specs.declared.num.ParseIntError.{ParseIntError}
 use Rattle.clap.specs.Words.{Row, Text, first_of, matches_of, one_of, subcommand_of, takes}
 use Rattle.dbm_command_line.specs.CommandLine.{command_line}
 use Rattle.dbm_command_line.specs.declared.plan.Plan.{Plan}
-use Rattle.dbm_command_line.specs.declared.plan.Plan.TheVariants.{Create, Store, Insert, Fetch, Delete, List as ListKeys, Dump, Load, Replace, Resize, Backup, Salvage, Stat, Verify, Upgrade, Script, ReadScript, Rehearse, Faults}
+use Rattle.dbm_command_line.specs.declared.plan.Plan.TheVariants.{Create, Store, Insert, Fetch, Delete, List as ListKeys, Dump, Load, Replace, Resize, Backup, Salvage, Stat, Verify, Format, Upgrade, Script, ReadScript, Rehearse, Faults}
 use Rattle.dbm_command_line.specs.declared.plan.Request.{Request}
 use Rattle.dbm_command_line.specs.declared.plan.Source.{Source}
 use Rattle.dbm_command_line.specs.declared.plan.Source.TheVariants.{File, Memory}
@@ -162,6 +162,7 @@ Asks name rows (Backup file to) = (name ≡ codes "backup")
 Asks name rows (Salvage file) = (name ≡ codes "salvage") × IsText rows (codes "file") file.now
 Asks name rows (Stat file) = (name ≡ codes "stat") × IsText rows (codes "file") file.now
 Asks name rows (Verify file) = (name ≡ codes "verify") × IsText rows (codes "file") file.now
+Asks name rows (Format file) = (name ≡ codes "version") × IsText rows (codes "file") file.now
 Asks name rows (Upgrade file to) = (name ≡ codes "upgrade")
     × IsText rows (codes "file") file.now × IsUpgrade rows to
 Asks name rows (Script source spelled) = (name ≡ codes "script") × IsSource rows source

@@ -174,7 +174,7 @@ command_line = record {
   subs = create_line ∷ pair_line (codes "store") ∷ pair_line (codes "insert")
       ∷ key_line (codes "fetch") ∷ key_line (codes "delete")
       ∷ pairs_line (codes "list") ∷ pairs_line (codes "dump") ∷ load_line
-      ∷ file_line (codes "stat") ∷ file_line (codes "verify") ∷ upgrade_line
-      ∷ resize_line ∷ backup_line ∷ file_line (codes "salvage")
+      ∷ file_line (codes "stat") ∷ file_line (codes "verify") ∷ file_line (codes "version")
+      ∷ upgrade_line ∷ resize_line ∷ backup_line ∷ file_line (codes "salvage")
       ∷ script_line ∷ rehearse_line ∷ faults_line ∷ [];
 }

@@ -140,7 +140,9 @@ pub fn wait<'a>(alloc: Global) -> Arg<'a>
         .long(WAIT)
         .value_name("SECONDS")
         .value_parser(value_parser!(u32).range(0..=i64::from(LONGEST_WAIT)))
-        .help("Where another program has the file open, try again for so many seconds (0 to 86400)")
+        .help(
+            "Where another program has the file open, try again for so many seconds (0 to 86400, else 1)",
+        )
 }
 
 /// The option `--cache`, in front of the command, whose value is from 1 to `MOST_KEPT`.

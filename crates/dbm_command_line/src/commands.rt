@@ -10,47 +10,20 @@ use crate::arguments::{
 use crate::help_text::fault_table;
 use crate::names::{
     BACKUP, CONTENT, CREATE, DELETE, DUMP, FAULTS, FETCH, FILE, INSERT, KEY, LIMIT, LIST, LOAD,
-    MEMORY, REHEARSE, RESIZE, SALVAGE, SCRIPT, STAT, STORE, TO, UPGRADE, VERIFY,
+    MEMORY, REHEARSE, RESIZE, SALVAGE, SCRIPT, STAT, STORE, TO, UPGRADE, VERIFY, VERSION,
 };
-use crate::texts::{about_text, load_examples, rehearse_steps, script_lines};
+use crate::texts::{
+    CREATE_SYNCS_HELP, CREATE_V2_HELP, DUMP_USAGE, FILE_HELP, KEYS_TEXT_HELP, LIST_USAGE,
+    MEMORY_V2_HELP, PAIRS_TEXT_HELP, SCRIPT_TEXT_HELP, UPGRADE_SYNCS_HELP, about_text,
+    load_examples, rehearse_steps, script_lines,
+};
 use clap::Command;
 use std::alloc::{AllocError, Global};
 
 const NAME: &str = "dbmtool";
 
 /// The program's version, and the versions of the format that it knows.
-const VERSION: &str = "0.1.0, file formats 1 and 2";
-
-const FILE_HELP: &str = "The name of the database, without `.db`";
-
-const CREATE_V2_HELP: &str =
-    "Version 2 of the format: contents of up to 65535 bytes, under keys of up to 1023";
-
-const CREATE_SYNCS_HELP: &str =
-    "How many syncs each of many stores takes: 2, or 1 by a log, which programs from before can't open";
-
-const UPGRADE_SYNCS_HELP: &str =
-    "Leave the version, and have each of many stores take 1 sync by a log, or 2 again without one";
-
-const MEMORY_V2_HELP: &str = "With --memory: a database of version 2 of the format";
-
-const KEYS_TEXT_HELP: &str =
-    "Keys as text, with `\\t`, `\\n`, `\\\\`, `\\xHH` for bytes; else in hexadecimal";
-
-const PAIRS_TEXT_HELP: &str =
-    "Lines are key and content with a tab between them, and `\\t`, `\\n`, `\\\\`, `\\xHH` for bytes; else two words in hexadecimal";
-
-const SCRIPT_TEXT_HELP: &str =
-    "A call and its bytes have tabs between them, and `\\t`, `\\n`, `\\\\`, `\\xHH` for bytes; else words in hexadecimal";
-
-// Whoever gives -x to these is told by their usage that it isn't needed.
-const LIST_USAGE: &str = "dbmtool list [--text] <FILE>
-
-Keys are printed in hexadecimal but for --text, so there is no -x.";
-
-const DUMP_USAGE: &str = "dbmtool dump [--text] <FILE>
-
-Pairs are printed in hexadecimal but for --text, so there is no -x.";
+const KNOWN_VERSIONS: &str = "0.1.0, file formats 1 and 2";
 
 /// The whole command line, of the words after the program's name.
 pub fn command<'a>(alloc: Global) -> Result<Command<'a>, AllocError>
@@ -66,6 +39,7 @@ pub fn command<'a>(alloc: Global) -> Result<Command<'a>, AllocError>
     let command = with_subcommand(command, load_command(alloc));
     let command = with_subcommand(command, stat_command(alloc));
     let command = with_subcommand(command, verify_command(alloc));
+    let command = with_subcommand(command, version_command(alloc));
     let command = with_subcommand(command, upgrade_command(alloc));
     let command = with_subcommand(command, resize_command(alloc));
     let command = with_subcommand(command, backup_command(alloc));
@@ -92,7 +66,7 @@ fn program<'a>(alloc: Global) -> Result<Command<'a>, AllocError>
 {
     Command::new(alloc, NAME)
         .about(about_text())
-        .version(VERSION)
+        .version(KNOWN_VERSIONS)
         .no_binary_name(true)
         .subcommand_required(true)
         .after_help(fault_table())
@@ -228,6 +202,17 @@ fn verify_command<'a>(alloc: Global) -> Result<Command<'a>, AllocError>
         VERIFY,
         "Looks at every page, and prints how many pairs there are, or tells fault 9",
         "Example:\n  dbmtool verify colors",
+    )
+}
+
+fn version_command<'a>(alloc: Global) -> Result<Command<'a>, AllocError>
+    ensures { IfOk result (λ c. IsApp c (alone (file_line (codes "version")))) }
+{
+    file_command(
+        alloc,
+        VERSION,
+        "Prints the version of a database's format and how many syncs a change in a row takes, in two lines; --version tells the program's own",
+        "Example:\n  dbmtool version colors",
     )
 }
 

@@ -5,6 +5,7 @@
 
 mod arguments;
 mod commands;
+mod flags;
 pub mod help_text;
 pub mod names;
 mod options;
@@ -15,6 +16,7 @@ mod words;
 
 pub use commands::command;
 pub use help_text::{FAULT_TABLE, fault_table};
+pub use names::USUAL_WAIT;
 pub use plan::{Commits, Plan, Request, Source, Spelling, Upgrade, Version};
 pub use seconds::seconds_in;
 pub use words::{WordsError, read_words};

@@ -1,5 +1,5 @@
 //! The names of the commands, the names under which the parser keeps what was given for a word or
-//! an option, the most lines of a load that may share a commit, and the longest wait.
+//! an option, the most lines of a load that may share a commit, the usual wait and the longest one.
 
 // The commands by their names.
 
@@ -22,6 +22,8 @@ pub const LOAD: &str = "load";
 pub const STAT: &str = "stat";
 
 pub const VERIFY: &str = "verify";
+
+pub const VERSION: &str = "version";
 
 pub const UPGRADE: &str = "upgrade";
 
@@ -75,6 +77,10 @@ pub const CACHE: &str = "cache";
 
 /// The most lines of a load that may share a commit.
 pub const MOST_LINES: u32 = 100_000;
+
+/// How many seconds to wait for a file where nobody says it, as a call of a program that shares the
+/// file may be under way.
+pub const USUAL_WAIT: u32 = 1;
 
 /// The most seconds to wait for a file: a day.
 pub const LONGEST_WAIT: u32 = 86_400;

@@ -1,15 +1,15 @@
 // The plan that a parse entered.
 ghost use Rattle.std.specs.Prelude.{◌≡◌, ◌⊎◌, IfErr, IfOk, IfSome, MatchOption, None, Some, codes};
 ghost use Rattle.clap.specs.Words.{first_of, found_of, one_of, rows_of, subcommand_rows_of};
-ghost use Rattle.dbm_command_line.specs.Asking.{AreNewCommits, AreOptions, Asks, IsForReading, IsForm, IsGroup, IsNumberText, IsOptional, IsReplacing, IsSource, IsText, IsVerbose, IsUpgrade, IsVersion, IsWithin, LacksFile, LacksMemory, LacksReplace, LacksSource, Names, NamesNoFile, NamesNoMemory, NamesNoReplace, NamesNoSource, flag_text, syncs_of};
+ghost use Rattle.dbm_command_line.specs.Asking.{AreNewCommits, AreOptions, Asks, IsForm, IsGroup, IsNumberText, IsOptional, IsSource, IsText, IsUpgrade, IsVersion, IsWithin, LacksFile, LacksMemory, LacksReplace, LacksSource, Names, NamesNoFile, NamesNoMemory, NamesNoReplace, NamesNoSource, flag_text, syncs_of};
 ghost use Rattle.dbm_command_line.specs.Sorting.{IsOfChoice};
 
 use crate::WordsError;
+use crate::flags::{for_reading, replacing, verbose};
 use crate::names::{
     BACKUP, CACHE, CONTENT, CREATE, DELETE, DUMP, FAULTS, FETCH, FILE, GROUP, HEXADECIMAL, INSERT,
-    KEY, LIMIT, LIST, LOAD, LONGEST_WAIT, MEMORY, MOST_KEPT, MOST_LINES, READ, REHEARSE, REPLACE,
-    RESIZE, SALVAGE, SCRIPT, STAT, STOPS, STORE, SYNCS, TEXT, TO, UPGRADE, V2, VERBOSE, VERIFY,
-    WAIT,
+    KEY, LIMIT, LIST, LOAD, LONGEST_WAIT, MEMORY, MOST_KEPT, MOST_LINES, REHEARSE, RESIZE, SALVAGE,
+    SCRIPT, STAT, STOPS, STORE, SYNCS, TEXT, TO, UPGRADE, V2, VERIFY, VERSION, WAIT,
 };
 use crate::plan::{Commits, Plan, Request, Source, Spelling, Upgrade, Version};
 use clap::ArgMatches;
@@ -55,17 +55,6 @@ fn within(options: &ArgMatches<'_>, id: &str, least: u32, most: u32) -> Option<O
         return None;
     }
     Some(Some(number))
-}
-
-/// Whether a fault is to be told in words.
-fn verbose(options: &ArgMatches<'_>) -> Option<bool>
-    ensures { IfSome result (IsVerbose (rows_of (found_of options.now))) }
-{
-    if options.get_one::<bool>(VERBOSE)? {
-        Some(true)
-    } else {
-        Some(false)
-    }
 }
 
 /// The plan that the words name.
@@ -132,17 +121,6 @@ fn load<'a>(options: &ArgMatches<'a>) -> Result<Plan<'a>, WordsError>
     }
 }
 
-/// Whether a load is to replace the pairs that are there.
-fn replacing(options: &ArgMatches<'_>) -> Option<bool>
-    ensures { IfSome result (IsReplacing (rows_of (found_of options.now))) }
-{
-    if options.get_one::<bool>(REPLACE)? {
-        Some(true)
-    } else {
-        Some(false)
-    }
-}
-
 /// The script that is to be run.
 fn script<'a>(options: &ArgMatches<'a>) -> Result<Plan<'a>, WordsError>
     ensures plan { IfOk result (Asks (codes "script") (rows_of (found_of options.now))) }
@@ -168,17 +146,6 @@ fn script<'a>(options: &ArgMatches<'a>) -> Result<Plan<'a>, WordsError>
         Err(WordsError::ScriptSource) => Err(WordsError::ScriptSource),
         Err(WordsError::VersionSource) => Err(WordsError::VersionSource),
         Err(_) => Err(WordsError::NoPlan),
-    }
-}
-
-/// Whether the database of a script is to be opened for reading.
-fn for_reading(options: &ArgMatches<'_>) -> Option<bool>
-    ensures { IfSome result (IsForReading (rows_of (found_of options.now))) }
-{
-    if options.get_one::<bool>(READ)? {
-        Some(true)
-    } else {
-        Some(false)
     }
 }
 
@@ -301,6 +268,7 @@ fn of_file<'a>(name: &str, options: &ArgMatches<'a>) -> Option<Plan<'a>>
         }),
         STAT => Some(Plan::Stat { file }),
         VERIFY => Some(Plan::Verify { file }),
+        VERSION => Some(Plan::Format { file }),
         UPGRADE => Some(Plan::Upgrade {
             file,
             to: upgrade(options)?,

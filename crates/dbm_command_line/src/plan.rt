@@ -100,6 +100,11 @@ pub enum Plan<'a> {
     Verify {
         file: &'a str,
     },
+    /// Print which version of the format a database has, and how many syncs each of its commits in a
+    /// row takes.
+    Format {
+        file: &'a str,
+    },
     /// Make a database that is there another one, with the same pairs.
     Upgrade {
         file: &'a str,

@@ -1,15 +1,15 @@
 // How long to wait, as a text says.
 ghost use Rattle.dbm_command_line.specs.Seconds.{SaysSeconds};
 
-use crate::names::LONGEST_WAIT;
+use crate::names::{LONGEST_WAIT, USUAL_WAIT};
 
-/// How many seconds a text says, where these are no more than `--wait` takes. An empty one says
-/// none, as where a variable of the environment is set to nothing.
+/// How many seconds a text says, where these are no more than `--wait` takes. Of an empty one they are
+/// those where nobody says how long, since a variable that is set to nothing says nothing.
 pub fn seconds_in(text: &str) -> Option<u32>
     ensures { SaysSeconds text.now result }
 {
     if text.is_empty() {
-        return Some(0);
+        return Some(USUAL_WAIT);
     }
     match text.parse::<u32>() {
         Ok(seconds) if seconds <= LONGEST_WAIT => Some(seconds),

@@ -1,5 +1,5 @@
-// The longer texts of the help. Each stands in a function of its own, since each step of a
-// function's proof repeats the texts in it.
+// The texts of the help. Each of the longer ones stands in a function of its own, since each step of
+// a function's proof repeats the texts in it.
 
 const ABOUT: &str = "Keeps pairs of a key and a content in a file, as the dbm interface does.
 
@@ -50,6 +50,39 @@ than the one that was under way besides. Five counts are printed; it exits with
 
 Example:
   echo 'S 6b 76' | dbmtool rehearse --memory 100";
+
+// The shorter ones, of words and options.
+
+pub const FILE_HELP: &str = "The name of the database, without `.db`";
+
+pub const CREATE_V2_HELP: &str =
+    "Version 2 of the format: contents of up to 65535 bytes, under keys of up to 1023";
+
+pub const CREATE_SYNCS_HELP: &str =
+    "How many syncs each of many stores takes: 2, or 1 by a log, which programs from before can't open";
+
+pub const UPGRADE_SYNCS_HELP: &str =
+    "Leave the version, and have each of many stores take 1 sync by a log, or 2 again without one";
+
+pub const MEMORY_V2_HELP: &str = "With --memory: a database of version 2 of the format";
+
+pub const KEYS_TEXT_HELP: &str =
+    "Keys as text, with `\\t`, `\\n`, `\\\\`, `\\xHH` for bytes; else in hexadecimal";
+
+pub const PAIRS_TEXT_HELP: &str =
+    "Lines are key and content with a tab between them, and `\\t`, `\\n`, `\\\\`, `\\xHH` for bytes; else two words in hexadecimal";
+
+pub const SCRIPT_TEXT_HELP: &str =
+    "A call and its bytes have tabs between them, and `\\t`, `\\n`, `\\\\`, `\\xHH` for bytes; else words in hexadecimal";
+
+// Whoever gives -x to these is told by their usage that it isn't needed.
+pub const LIST_USAGE: &str = "dbmtool list [--text] <FILE>
+
+Keys are printed in hexadecimal but for --text, so there is no -x.";
+
+pub const DUMP_USAGE: &str = "dbmtool dump [--text] <FILE>
+
+Pairs are printed in hexadecimal but for --text, so there is no -x.";
 
 /// The program's, before its commands.
 pub fn about_text<'a>() -> &'a str {

@@ -3,6 +3,14 @@ use Rattle.std.proofs.Common.{ℕ, List, ◌++◌, Option, Result, Ok, Err, OnOk
 use Rattle.std.proofs.KnownBytes.{Appends-trans, Appends-kept}
 use Rattle.std.specs.Io.KnownBytes.{Appends, Keeps}
 
+-- two lines, which a flush keeps
+pub two_printed : {T E : Type 0} (flushed : Result T E) (a b c d : Option (List ℕ))
+    (one two : List ℕ) → Appends a b one → Appends b c two → Keeps c d
+    → OnOk flushed (Appends a d (one ++ two))
+two_printed (Err fault) a b c d one two p q keeps = tt
+two_printed (Ok x) a b c d one two p q keeps =
+    Appends-kept a c d _ (Appends-trans a b c one two p q) keeps
+
 -- seven lines, which a flush keeps
 pub seven_printed : {T E : Type 0} (flushed : Result T E) (a b c d e f g h i : Option (List ℕ))
     (one two three four five six seven : List ℕ)

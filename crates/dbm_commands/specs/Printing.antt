@@ -6,8 +6,11 @@ use Rattle.dbm_lines.specs.Lines.{with_line_feed}
 use Rattle.dbm_lines.specs.Words.{word_of}
 use Rattle.dbm_command_line.specs.declared.plan.Spelling.{Spelling}
 use Rattle.dbm_command_line.specs.declared.plan.Spelling.TheVariants.{Text, Hexadecimal}
+use Rattle.dbm_model.specs.Bounds.{Version, version_number}
 use Rattle.page_model.specs.Valid.{meta_buckets}
 use Rattle.page_io.specs.declared.store.PageStore.{Ghosts}
+use Rattle.redo_area.specs.declared.header.CommitKind.{CommitKind}
+use Rattle.redo_area.specs.declared.header.CommitKind.TheVariants.{Images, Log}
 use Rattle.dbm_fault.specs.declared.engine_fault.EngineFault.TheVariants.{Write}
 use Rattle.dbm_file.specs.Database.{meta_kept, page_state}
 use Rattle.dbm_file.specs.declared.calls.Reply.{Reply}
@@ -59,3 +62,18 @@ stat_text stat =
     ++ number_line (codes "split") stat.split
     ++ number_line (codes "pages") stat.pages
     ++ number_line (codes "free") stat.free
+
+-- the version of a database's format
+abbrev pub version_of : {S : Type 0} {s : Ghosts S} → Database S s → Version
+version_of db = (meta_kept db).bounds.version
+
+-- so many syncs has each of commits in a row
+abbrev pub syncs_of : CommitKind → ℕ
+syncs_of Log = 1
+syncs_of Images = 2
+
+-- the number of a version, and the syncs of each of commits in a row, one a line
+abbrev pub format_text : Version → CommitKind → List ℕ
+format_text version kind =
+    number_line (codes "version") (version_number version)
+    ++ number_line (codes "syncs") (syncs_of kind)

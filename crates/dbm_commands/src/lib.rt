@@ -11,6 +11,6 @@ mod words;
 pub use ending::{close_after, flush_after};
 pub use outcomes::{Failure, Outcome};
 pub use pairs::{delete, fetch, store, upgrade};
-pub use printing::stat;
+pub use printing::{print_format, stat};
 pub use verifying::verify;
 pub use words::bytes_of;

@@ -5,7 +5,7 @@ use Rattle.std.specs.Io.KnownBytes.{Appends}
 use Rattle.dbm_lines.specs.Lines.{with_line_feed}
 use Rattle.dbm_command_line.specs.declared.help_text.TheConstants.{BAD_LIMIT_WORDS, BROKEN_WORDS, DAMAGED_WORDS, DEVICE_WORDS, EXISTS_WORDS, FULL_WORDS, LOST_WORDS, MEMORY_WORDS, MISSING_WORDS, NO_PASS_WORDS, NO_ROOM_WORDS, NOT_A_DATABASE_WORDS, READ_ONLY_WORDS, READ_WORDS, STOPPED_WORDS, TOO_LONG_WORDS, TOO_SMALL_WORDS, VERSION_WORDS, WRITE_WORDS}
 use Rattle.dbm_command_line.specs.declared.plan.Plan.{Plan}
-use Rattle.dbm_command_line.specs.declared.plan.Plan.TheVariants.{Create, Store, Insert, Fetch, Delete, List as ListKeys, Dump, Load, Replace, Resize, Backup, Salvage, Stat, Verify, Upgrade, Script, ReadScript, Rehearse, Faults}
+use Rattle.dbm_command_line.specs.declared.plan.Plan.TheVariants.{Create, Store, Insert, Fetch, Delete, List as ListKeys, Dump, Load, Replace, Resize, Backup, Salvage, Stat, Verify, Format, Upgrade, Script, ReadScript, Rehearse, Faults}
 use Rattle.dbm_command_line.specs.declared.plan.Source.TheVariants.{File, Memory as InMemory}
 use Rattle.dbm_command_line.specs.declared.plan.Spelling.{Spelling}
 use Rattle.dbm_command_line.specs.declared.plan.Spelling.TheVariants.{Text, Hexadecimal}
@@ -41,6 +41,7 @@ file_of (Backup file to) = Some file.now
 file_of (Salvage file) = Some file.now
 file_of (Stat file) = Some file.now
 file_of (Verify file) = Some file.now
+file_of (Format file) = Some file.now
 file_of (Upgrade file to) = Some file.now
 file_of (Script (File file) spelling) = Some file.now
 file_of (ReadScript file spelling) = Some file.now

@@ -1,8 +1,11 @@
 -- What the commands do with the database of their file, and how they end.
 use Rattle.std.specs.Prelude.{◌≡◌, ◌⊎◌, ℕ, List, [], ◌∷◌, true, Option, None, Some, IfSome, Result, Ok, Err, OnOk, IfErr}
 use Rattle.std.specs.Io.KnownBytes.{Appends}
+use Rattle.sect_dev.specs.declared.device.SectorDev as device
 use Rattle.page_io.specs.declared.store.PageStore.{Ghosts}
-use Rattle.dbm_commands.specs.Printing.{stat_of, stat_text}
+use Rattle.redo_area.specs.declared.pager.Pager.{Pager}
+use Rattle.page_cache.specs.declared.cached_pages.CachedPages.{CachedPages}
+use Rattle.dbm_commands.specs.Printing.{format_text, stat_of, stat_text, version_of}
 use Rattle.dbm_commands.specs.Verifying.{TellsPairs, verify_failures}
 use Rattle.dbm_commands.specs.Words.{spelled}
 use Rattle.dbm_commands.specs.declared.outcomes.Outcome.{Outcome}
@@ -15,6 +18,7 @@ use Rattle.dbm_fault.specs.declared.engine_fault.EngineFault.{EngineFault}
 use Rattle.dbm_fault.specs.declared.engine_fault.EngineFault.TheVariants.{Memory, Read, Write, Line, Db}
 use Rattle.dbm_fault.specs.declared.fault.Fault.TheVariants.{Damaged}
 use Rattle.dbm_file.specs.Database.{store_of, AtEachHandle}
+use Rattle.dbm_file.specs.Opened.{kind_below}
 use Rattle.dbm_file.specs.Verifying.{IsFileOf}
 use Rattle.dbm_file.specs.declared.database.Database.{Database}
 use Rattle.dbm_lines.specs.Forms.{script_in}
@@ -120,3 +124,12 @@ module _ {S : Type 0} {s : Ghosts S} where
     pub damaged : s.honest (store_of old) → done ≡ Err (Fault (Db Damaged)) → (pairs : ℕ)
         → IsFileOf (s.committed (store_of old)) pairs → ⊥
     pub only : IsErrAmong done verify_failures
+
+-- the version of a database's format and the syncs of each of its commits in a row were printed, or
+-- the write failed
+abbrev pub PrintsFormat : {D : Type 0} {bound : device.Ghosts D} {p : Ghosts (Pager D bound)}
+    {s : Ghosts (CachedPages (Pager D bound) p)} (old new : Database (CachedPages (Pager D bound) p) s)
+    → Option (List ℕ) → Option (List ℕ) → Result Outcome Failure → Type 0
+PrintsFormat old new before after done =
+    (new ≡ old) × OnOk done (Appends before after (format_text (version_of old) (kind_below old)))
+    × ((done ≡ Ok Done) ⊎ (done ≡ Err (Fault Write)))

@@ -1,7 +1,7 @@
 -- How a plan may end.
 use Rattle.std.specs.Prelude.{◌≡◌, ◌⊎◌, ℕ, Bool, true, false, Option, None, Result, Ok, Err}
 use Rattle.dbm_command_line.specs.declared.plan.Plan.{Plan}
-use Rattle.dbm_command_line.specs.declared.plan.Plan.TheVariants.{Store, Insert, Fetch, Delete, List as ListKeys, Dump, Load, Replace, Salvage, Stat, Verify, Script, ReadScript, Rehearse, Faults}
+use Rattle.dbm_command_line.specs.declared.plan.Plan.TheVariants.{Store, Insert, Fetch, Delete, List as ListKeys, Dump, Load, Replace, Salvage, Stat, Verify, Format, Script, ReadScript, Rehearse, Faults}
 use Rattle.dbm_command_line.specs.declared.plan.Source.{Source}
 use Rattle.dbm_command_line.specs.declared.plan.Source.TheVariants.{Memory as InMemory}
 use Rattle.dbm_commands.specs.Words.{spelled}
@@ -32,6 +32,7 @@ prints (Dump file spelling) = true
 prints (Salvage file) = true
 prints (Stat file) = true
 prints (Verify file) = true
+prints (Format file) = true
 prints (Script source spelling) = true
 prints (ReadScript file spelling) = true
 prints (Rehearse source stops) = true

@@ -12,7 +12,7 @@ use Rattle.dbm_lines.specs.Forms.{dump_in, listing_in}
 use Rattle.dbm_command_line.specs.declared.help_text.TheConstants.{FAULT_TABLE}
 use Rattle.dbm_command_line.specs.declared.plan.Plan.{Plan}
 use Rattle.dbm_command_line.specs.declared.plan.Upgrade.TheVariants.{Version2}
-use Rattle.dbm_command_line.specs.declared.plan.Plan.TheVariants.{Create, Store, Insert, Fetch, Delete, List as ListKeys, Dump, Load, Stat, Verify, Upgrade, Script, ReadScript, Rehearse, Faults}
+use Rattle.dbm_command_line.specs.declared.plan.Plan.TheVariants.{Create, Store, Insert, Fetch, Delete, List as ListKeys, Dump, Load, Stat, Verify, Format, Upgrade, Script, ReadScript, Rehearse, Faults}
 use Rattle.dbm_command_line.specs.declared.plan.Source.TheVariants.{File, Memory}
 use Rattle.dbm_command_line.specs.declared.plan.Version.{Version}
 use Rattle.dbm_command_line.specs.declared.plan.Version.TheVariants.{V1, V2}
@@ -23,7 +23,7 @@ use Rattle.dbm_commands.specs.declared.outcomes.Outcome.{Outcome}
 use Rattle.dbm_commands.specs.declared.outcomes.Outcome.TheVariants.{Done}
 use Rattle.dbm_commands.specs.declared.outcomes.Failure.{Failure}
 use Rattle.dbm_commands.specs.declared.outcomes.Failure.TheVariants.{NotKept}
-use Rattle.dbm_tool.specs.Commands.{LoadsText, LooksThrough, Prints, PrintsNumbers, RunsScript, Takes, form_of}
+use Rattle.dbm_tool.specs.Commands.{LoadsText, LooksThrough, Prints, PrintsFormat, PrintsNumbers, RunsScript, Takes, form_of}
 use Rattle.dbm_tool.specs.Files.{Opens, made_new, there}
 use Rattle.dbm_rehearse.specs.Counts.{AreCounted, counts_text, stops_of}
 use Rattle.dbm_rehearse.specs.Lines.{bad_lines}
@@ -91,6 +91,8 @@ module _ {D : Type 0} {bound : device.Ghosts D} {p : store.Ghosts (Pager D bound
       Opens s (there ReadOnly) (λ db after. PrintsNumbers db after old new) result
   CarriesOut (Verify file) result input old new =
       Opens s (there ReadOnly) (λ db after. LooksThrough db old new) result
+  CarriesOut (Format file) result input old new =
+      Opens s (there ReadOnly) (λ db after. PrintsFormat db after old new) result
   CarriesOut (Upgrade file Version2) result input old new =
       Opens s (there ReadWrite) (λ db after done. MakesCall db after call.Upgrade (IsTold done))
       result

@@ -138,6 +138,21 @@ pub fn stat<T: Files<File = File> + Clock, O: Write>(
     host.close(db, done)
 }
 
+/// Prints the version of a database's format, and how many syncs a change in a row takes.
+pub fn print_format<T: Files<File = File> + Clock, O: Write>(
+    host: &mut Host<'_, T>,
+    file: &str,
+    output: &mut O,
+) -> Result<Outcome, Failure>
+    ensures carried { CarriesOut ⟦<FileStore as PageStore>⟧
+        (Plan.Format file.entry) result None (O.contents output.old) (O.contents output.new) }
+    ensures ends { EndsAs (Plan.Format file.entry) result }
+{
+    let opened = host.open_there(file, Access::ReadOnly)?;
+    let done = dbm_commands::print_format(&opened, output);
+    host.close(opened, done)
+}
+
 /// Makes the database another one, with the same pairs.
 pub fn upgrade<T: Files<File = File> + Clock>(
     host: &mut Host<'_, T>,

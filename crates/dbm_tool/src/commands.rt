@@ -7,7 +7,7 @@ ghost use Rattle.dbm_tool.specs.Endings.{EndsAs, prints, reads};
 ghost use Rattle.dbm_tool.specs.Plans.{CarriesOut, asked_bounds};
 
 use crate::EngineFault;
-use crate::calls::{create, delete, fetch, insert, stat, store, upgrade, verify};
+use crate::calls::{create, delete, fetch, insert, print_format, stat, store, upgrade, verify};
 use crate::host::{FileStore, Host};
 use crate::rehearsals::{rehearse_file, rehearse_new};
 use crate::replacements::{copy_table, replace_table, resize_table};
@@ -92,6 +92,7 @@ pub fn carry_out<T: Files<File = File> + Clock, R: BufRead, O: Write, S: Trouble
         Plan::Salvage { file } => salvage(host, file, output, troubles, progress),
         Plan::Stat { file } => stat(host, file, output),
         Plan::Verify { file } => verify(host, file, output, progress),
+        Plan::Format { file } => print_format(host, file, output),
         Plan::Upgrade { file, to } => upgrade(host, file, to),
         Plan::Script {
             source: Source::File(file),

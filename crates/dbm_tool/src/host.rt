@@ -1,9 +1,10 @@
 // What a command on a file has of the system.
-ghost use Rattle.std.specs.Prelude.{◌≡◌, Err, IfErr, IfOk, IsSome, OnOk};
+ghost use Rattle.std.specs.Prelude.{◌≡◌, ◌*◌, Err, IfErr, IfOk, IsSome, OnOk, Result};
 ghost use Rattle.file_opening.specs.Opening.{writes};
 ghost use Rattle.dbm_file.specs.Named.{OpensFile};
 ghost use Rattle.dbm_file.specs.Opened.{IsNewlyOpened};
 ghost use Rattle.dbm_tool.specs.Files.{IsClosed, IsOpening, RefusesOpening, there};
+ghost use Rattle.dbm_tool.specs.Waiting.{EndsWaiting, answer_of};
 
 use crate::EngineFault;
 use crate::waiting::open_waiting;
@@ -92,6 +93,19 @@ impl<T: Files<File = File> + Clock> Host<'_, T> {
                 kept_pages: None,
             },
         )
+    }
+
+    /// Begins what is refused while another program has a file open, and waits for that.
+    pub fn begin<B, F: Fn() -> Result<B, Refusal>>(&mut self, beginning: F) -> Result<B, Fault>
+        requires { F.IsAlwaysCallable beginning }
+        ensures waited { (ended : Result B Refusal)
+            × EndsWaiting (F.post beginning) (self.old.wait * 10) ended
+            × (result ≡ answer_of ended) }
+    {
+        match open_waiting(self.rt, self.wait, beginning) {
+            Ok(begun) => Ok(begun),
+            Err(refusal) => Err(self.keep_cause(refusal)),
+        }
     }
 
     /// Opens a database, and waits for its file where another program has it open. It keeps as many

@@ -82,6 +82,7 @@ fn file_of<'a>(plan: Plan<'a>) -> Option<&'a str>
         Plan::Salvage { file } => Some(file),
         Plan::Stat { file } => Some(file),
         Plan::Verify { file } => Some(file),
+        Plan::Format { file } => Some(file),
         Plan::Upgrade { file, .. } => Some(file),
         Plan::ReadScript { file, .. } => Some(file),
         Plan::Script { source, .. } | Plan::Rehearse { source, .. } => match source {

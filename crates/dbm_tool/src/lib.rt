@@ -17,7 +17,7 @@ mod texts;
 mod versions;
 mod waiting;
 
-pub use dbm_command_line::seconds_in;
+pub use dbm_command_line::{USUAL_WAIT, seconds_in};
 pub use dbm_engines::{
     dump_engine, dump_text_engine, list_engine, list_text_engine, load_engine, load_text_engine,
     script_engine,

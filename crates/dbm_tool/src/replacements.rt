@@ -5,16 +5,17 @@ ghost use Rattle.dbm_tool.specs.Endings.{EndsAs};
 use crate::host::Host;
 use crate::lines::{bad_line, refused_line};
 use crate::texts::form_of;
-use dbm_aside::{Stop, backup, replace, resize};
+use dbm_aside::{Stop, backup, begin_building, open_source, replace, resize};
 use dbm_command_line::{Plan, Spelling};
 use dbm_commands::{Failure, Outcome};
 use dbm_progress::Progress;
 use std::fs::File;
 use std::io::BufRead;
 use std::rt::Files;
+use std::time::Clock;
 
 /// Puts a table with the pairs of a text in the place of the one that is there.
-pub fn replace_table<T: Files<File = File>, R: BufRead, P: Progress>(
+pub fn replace_table<T: Files<File = File> + Clock, R: BufRead, P: Progress>(
     host: &mut Host<'_, T>,
     file: &str,
     spelling: Spelling,
@@ -24,18 +25,10 @@ pub fn replace_table<T: Files<File = File>, R: BufRead, P: Progress>(
 ) -> Result<Outcome, Failure>
     ensures { EndsAs (Plan.Replace file.entry spelling limit) result }
 {
+    let (rt, alloc, form) = (host.rt, host.alloc, form_of(spelling));
+    let building = host.begin(|| begin_building(rt, alloc, file, limit))?;
     let mut load_stop = None;
-    let form = form_of(spelling);
-    let replaced = replace(
-        host.rt,
-        host.alloc,
-        file,
-        limit,
-        form,
-        input,
-        &mut load_stop,
-        progress,
-    );
+    let replaced = replace(rt, alloc, building, form, input, &mut load_stop, progress);
     host.line = refused_line(load_stop);
     host.bad_line = bad_line(load_stop, spelling);
     match replaced {
@@ -45,7 +38,7 @@ pub fn replace_table<T: Files<File = File>, R: BufRead, P: Progress>(
 }
 
 /// Puts a table with the same pairs in the place of the one that is there.
-pub fn resize_table<T: Files<File = File>, P: Progress>(
+pub fn resize_table<T: Files<File = File> + Clock, P: Progress>(
     host: &mut Host<'_, T>,
     file: &str,
     limit: Option<u32>,
@@ -53,14 +46,16 @@ pub fn resize_table<T: Files<File = File>, P: Progress>(
 ) -> Result<Outcome, Failure>
     ensures { EndsAs (Plan.Resize file.entry limit) result }
 {
-    match resize(host.rt, host.alloc, file, limit, progress) {
+    let (rt, alloc) = (host.rt, host.alloc);
+    let building = host.begin(|| begin_building(rt, alloc, file, limit))?;
+    match resize(rt, alloc, building, progress) {
         Ok(_pairs) => Ok(Outcome::Done),
         Err(stop) => Err(failure_by(host, stop)),
     }
 }
 
 /// Makes a whole copy of a table under a name that is free.
-pub fn copy_table<T: Files<File = File>, P: Progress>(
+pub fn copy_table<T: Files<File = File> + Clock, P: Progress>(
     host: &mut Host<'_, T>,
     file: &str,
     to: &str,
@@ -68,7 +63,9 @@ pub fn copy_table<T: Files<File = File>, P: Progress>(
 ) -> Result<Outcome, Failure>
     ensures { EndsAs (Plan.Backup file.entry to.entry) result }
 {
-    match backup(host.rt, host.alloc, file, to, progress) {
+    let (rt, alloc) = (host.rt, host.alloc);
+    let source = host.begin(|| open_source(rt, alloc, file))?;
+    match backup(rt, alloc, &source, to, progress) {
         Ok(_pairs) => Ok(Outcome::Done),
         Err(stop) => Err(failure_by(host, stop)),
     }

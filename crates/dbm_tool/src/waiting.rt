@@ -1,4 +1,4 @@
-// Openings that wait for a file that another program has open.
+// What is begun on a file, as an opening, and waits where another program has it open.
 ghost use Rattle.std.specs.Prelude.{◌*◌, ◌↔◌, IsTrue};
 ghost use Rattle.dbm_tool.specs.Waiting.{EndsWaiting, IsLocked};
 

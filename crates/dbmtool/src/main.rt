@@ -3,7 +3,8 @@
 
 use dbm_progress::{Terminal, Terminals};
 use dbm_tool::{
-    Environment, Exit, Noting, Told, bad_wait, not_text, out_of_memory, seconds_in, tool,
+    Environment, Exit, Noting, Told, USUAL_WAIT, bad_wait, not_text, out_of_memory, seconds_in,
+    tool,
 };
 use std::env::{self, VarError};
 use std::io::{self, BufReader, BufWriter, ErrorKind, IsTerminal, Write};
@@ -37,11 +38,11 @@ fn verbose(rt: &HostRuntime) -> bool {
     }
 }
 
-/// How many seconds `DBMTOOL_WAIT` says, or none where there is no such variable.
+/// How many seconds `DBMTOOL_WAIT` says, or the usual ones where there is no such variable.
 fn wait(rt: &HostRuntime) -> Result<u32, BadWait> {
     match env::var(rt, "DBMTOOL_WAIT") {
         Ok(value) => seconds_in(value.as_str()).ok_or(BadWait::Text),
-        Err(VarError::NotPresent) => Ok(0),
+        Err(VarError::NotPresent) => Ok(USUAL_WAIT),
         Err(VarError::NotUnicode) => Err(BadWait::Text),
         Err(VarError::OutOfMemory) => Err(BadWait::Memory),
     }

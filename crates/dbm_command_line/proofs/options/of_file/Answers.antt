@@ -60,6 +60,9 @@ returns-in-stat c = (c.in-stat.is, c.in_ok-file.ensures)
 pub returns-in-verify : goal.returns-in-verify
 returns-in-verify c = (c.in-verify.is, c.in_ok-file.ensures)
 
+pub returns-in-version : goal.returns-in-version
+returns-in-version c = (c.in-version.is, c.in_ok-file.ensures)
+
 pub returns-in_err-upgrade-in-upgrade : goal.returns-in_err-upgrade-in-upgrade
 returns-in_err-upgrade-in-upgrade c =
     if_none c.from_residual-in_err-upgrade-in-upgrade.result

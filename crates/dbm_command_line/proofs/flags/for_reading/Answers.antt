@@ -2,7 +2,7 @@ use Rattle.std.proofs.Common.{codes, false, true}
 use Rattle.clap.specs.Words.{found_of, rows_of}
 use Rattle.dbm_command_line.specs.Asking.{IsForReading}
 use Rattle.dbm_command_line.proofs.Naming.{flag_read, if_none}
-use Rattle.dbm_command_line.proofs.options.for_reading.Goals as goal
+use Rattle.dbm_command_line.proofs.flags.for_reading.Goals as goal
 
 pub returns-then-branch : goal.returns-then-branch
 returns-then-branch c = flag_read (found_of c.args.options.now) (codes "read")
