@@ -38,11 +38,20 @@ int ndbm_bytes_write(int fd, const unsigned char *bytes, size_t size, off_t at) 
     return 0;
 }
 
-int ndbm_bytes_sync(int fd) {
-    while (fdatasync(fd)) {
+/* Syncs by this call of the system: 0, or the system's number. */
+static int sync_by(int (*sync)(int fd), int fd) {
+    while (sync(fd)) {
         if (errno != EINTR) return ndbm_system_number();
     }
     return 0;
+}
+
+int ndbm_bytes_sync(int fd) {
+    return sync_by(fdatasync, fd);
+}
+
+int ndbm_bytes_sync_all(int fd) {
+    return sync_by(fsync, fd);
 }
 
 int ndbm_give_up(int fd) {

@@ -20,7 +20,23 @@ unsigned ndbm_environment_wait(unsigned otherwise) {
     return seconds;
 }
 
+static bool says(const char *name, const char *word) {
+    const char *text = secure_getenv(name);
+    return text && !strcmp(text, word);
+}
+
 bool ndbm_environment_shares(void) {
-    const char *text = secure_getenv("KUMQUATFEN_SHARED");
-    return text && !strcmp(text, "1");
+    return says("KUMQUATFEN_SHARED", "1");
+}
+
+bool ndbm_environment_builds(void) {
+    return says("KUMQUATFEN_BUILD", "1");
+}
+
+bool ndbm_environment_has_two_names(void) {
+#ifdef KUMQUATFEN_NAMES_PAG
+    return !says("KUMQUATFEN_NAMES", "db");
+#else
+    return says("KUMQUATFEN_NAMES", "pag");
+#endif
 }

@@ -136,19 +136,24 @@ static bool stands_under(int fd, const char *path) {
     return !fstat(fd, &open) && !stat(path, &found) && open.st_dev == found.st_dev && open.st_ino == found.st_ino;
 }
 
-/* Takes the lock of a file, alone where it is written. Where it is waited for, that is for a moment in the turnstile, since calls of
- * shared handles end soon. */
-static int take_lock(int fd, bool writes, bool waits) {
-    if (!waits || ndbm_place_of(fd) == FAR) return ndbm_lock_at_once(fd, writes);
-    return ndbm_lock_take(fd, writes, true, ndbm_now() + MOMENT);
+/* Where the lock is waited for, that is for a moment in the turnstile, since calls of shared handles end soon. */
+int ndbm_file_lock(int fd, bool alone, bool waits) {
+    if (!waits || ndbm_place_of(fd) == FAR) return ndbm_lock_at_once(fd, alone);
+    return ndbm_lock_take(fd, alone, true, ndbm_now() + MOMENT);
 }
 
 /* Locks the file, and tells EWOULDBLOCK where it can't be locked now. */
 static int lock_file(int fd, const char *path, bool writes, bool waits) {
-    if (take_lock(fd, writes, waits)) return -1;
+    if (ndbm_file_lock(fd, writes, waits)) return -1;
     if (!writes || stands_under(fd, path)) return 0;
     errno = EWOULDBLOCK;
     return -1;
+}
+
+bool ndbm_file_is_tried_again(uint64_t began, uint64_t until) {
+    if (errno != EWOULDBLOCK || ndbm_now() >= until) return false;
+    wait_until(began + BETWEEN < until ? began + BETWEEN : until);
+    return true;
 }
 
 /* The file is opened anew at each try, since another one may have got its name. */
@@ -160,8 +165,7 @@ int ndbm_file_open(const char *path, int flags, mode_t mode, const dbmx_how *how
         if (fd < 0 || (how->options & (DBMX_UNLOCKED | DBMX_SHARED))) return fd;
         if (!lock_file(fd, path, ndbm_file_is_written(flags), how->wait)) return fd;
         ndbm_give_up(fd);
-        if (errno != EWOULDBLOCK || ndbm_now() >= until) return -1;
-        wait_until(began + BETWEEN < until ? began + BETWEEN : until);
+        if (!ndbm_file_is_tried_again(began, until)) return -1;
     }
 }
 
@@ -169,10 +173,25 @@ int ndbm_file_open_named(int folder, const char *name, int flags, struct stat *i
     return above_standard(plain_file(openat(folder, name, passed_on(flags), 0), it));
 }
 
-int ndbm_file_open_folder(const char *path) {
+int ndbm_file_make_named(int folder, const char *name, int flags) {
+    return above_standard(openat(folder, name, passed_on(flags) | O_CREAT | O_EXCL, 0600));
+}
+
+/* Its folder is synced where it is made here. */
+int ndbm_file_open_empty(const char *path, int flags, mode_t mode) {
+    struct stat it;
+    int fd = open_there(path, passed_on(flags));
+    if (fd < 0 && errno == ENOENT && (flags & O_CREAT) && ndbm_file_is_written(flags)) {
+        fd = open(path, passed_on(flags) | O_CREAT, mode);
+        if (fd >= 0 && sync_folder(path)) return ndbm_give_up(fd);
+    }
+    return above_standard(plain_file(fd, &it));
+}
+
+int ndbm_file_open_folder(const char *path, int way) {
     char *folder = folder_of(path);
     if (!folder) return -1;
-    int fd = above_standard(open_there(folder, O_PATH | O_DIRECTORY | O_CLOEXEC)), error = errno;
+    int fd = above_standard(open_there(folder, way | O_DIRECTORY | O_CLOEXEC)), error = errno;
     free(folder);
     errno = error;
     return fd;

@@ -4,7 +4,7 @@
 
 #include "parts.h"
 
-enum { GROUP_PAIRS = 8192, GROUP_BYTES = 1 << 20, FAR_SHARE = 4 };
+enum { FAR_SHARE = 4 };
 
 /* how many pairs of a group may wait for their places where others share the file */
 enum { WAITING = 64 };
@@ -23,18 +23,26 @@ static size_t share_of(size_t key, size_t content) {
     return is_near(key, content) ? key + content : FAR_SHARE * (key + content);
 }
 
-/* One that is too long to be stored ends them. */
+bool ndbm_group_is_near(const dbmx_pair *pair) {
+    return is_near(pair->key.dsize, pair->content.dsize);
+}
+
+/* One that is too long to be stored isn't taken. */
+bool ndbm_group_takes(struct extent *it, const dbmx_pair *pair) {
+    datum key = pair->key, content = pair->content;
+    if (it->count == GROUP_PAIRS || !is_datum(key) || !is_datum(content)) return false;
+    if (!is_allowed(key.dsize, content.dsize)) return false;
+    size_t share = share_of(key.dsize, content.dsize);
+    if (share > GROUP_BYTES - it->size) return false;
+    it->count++;
+    it->size += share;
+    return true;
+}
+
 size_t ndbm_group_size(const dbmx_pair *pairs, size_t count) {
-    size_t n = 0, size = 0;
-    for (; n < count && n < GROUP_PAIRS; n++) {
-        datum key = pairs[n].key, content = pairs[n].content;
-        if (!is_datum(key) || !is_datum(content)) break;
-        if (!is_allowed(key.dsize, content.dsize)) break;
-        size_t share = share_of(key.dsize, content.dsize);
-        if (share > GROUP_BYTES - size) break;
-        size += share;
-    }
-    return n;
+    struct extent it = {0, 0};
+    while (it.count < count && ndbm_group_takes(&it, &pairs[it.count])) continue;
+    return it.count;
 }
 
 /* Looks keys up, so that the device is given the pages where they and their contents are, up to the content that makes them more

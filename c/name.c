@@ -1,6 +1,7 @@
 /* The name under which a shared handle finds its file: another file may get it, as by `dbmtool load --replace`. */
 #define _GNU_SOURCE
 #include <errno.h>
+#include <fcntl.h>
 #include <stdlib.h>
 #include <string.h>
 #include <unistd.h>
@@ -14,7 +15,7 @@ static bool is_same_time(struct timespec a, struct timespec b) {
 /* The folder is kept open, so that the name is found also behind chdir and chroot. */
 int ndbm_name_begins(struct name *it, const char *path, const struct stat *file) {
     const char *slash = strrchr(path, '/');
-    it->folder = ndbm_file_open_folder(path);
+    it->folder = ndbm_file_open_folder(path, O_PATH);
     if (it->folder < 0) return -1;
     it->text = strdup(slash ? slash + 1 : path);
     ndbm_name_notes(it, file);

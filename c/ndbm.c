@@ -21,10 +21,12 @@ enum { WAIT = 5, WAIT_OF_A_CALL = 10 };
  * need not have memory for the rest of it. */
 struct ndbm_database {
     struct served served;
+    struct building building;
+    struct aside aside;
     bool writable, is_locked;
-    /* the descriptor that dbm_dirfno gives where the file is locked, or -1 before its first call, and what it tells of the file, which
-     * is as it was before an opening for writing wrote to it */
-    int stand_in;
+    /* The descriptor that dbm_dirfno gives: that of FILE.dir, or of a file that stands in for it, which is made at its first call; -1
+     * where there is neither. A stand-in tells what was so of the file before an opening for writing wrote to it. */
+    int dir;
     struct stat file;
     /* what was given last by dbm_firstkey or dbm_nextkey, and by dbm_fetch */
     alignas(max_align_t) unsigned char key[KEY_ROOM];
@@ -41,42 +43,65 @@ static bool is_own(const DBM *db) {
     return db && (db->served.shared || ndbm_owner_is_here(&db->served.owner));
 }
 
-/* the path of the file, or null where there is no memory */
-static char *path_of(const char *file) {
-    size_t length = strlen(file);
-    char *path = malloc(length + sizeof DBM_SUFFIX);
-    if (!path) return NULL;
-    memcpy(path, file, length);
-    memcpy(path + length, DBM_SUFFIX, sizeof DBM_SUFFIX);
-    return path;
+/* A program makes FILE.pag and FILE.dir itself, where it has two files, and then has the first one emptied: one of no bytes is taken. */
+static bool creates(int flags) {
+    return (flags & O_CREAT) || ((flags & O_TRUNC) && ndbm_environment_has_two_names());
 }
 
 static struct how how_of(int flags, const dbmx_how *how) {
     return (struct how){.writable = ndbm_file_is_written(flags),
-                        .create = flags & O_CREAT,
-                        .exclusive = flags & O_EXCL,
+                        .create = creates(flags),
+                        .exclusive = (flags & O_CREAT) && (flags & O_EXCL),
                         .truncate = flags & O_TRUNC,
                         .first_version = how->options & DBMX_VERSION_1,
                         .limit = how->limit ? how->limit : LIMIT,
                         .kept_pages = how->options & DBMX_PAGES ? how->pages : 0};
 }
 
-/* the number of the fault, or 0; errno says the same */
+/* what open_in_place answers where the file has bytes meanwhile, and is to be built beside it */
+enum { OVERTAKEN = -1 };
+
+/* Opens the file that has the path: the number of the fault, or 0; errno says the same. */
+static int open_in_place(DBM *db, const struct asked *asked, mode_t mode, const dbmx_how *how) {
+    bool builds = how->options & DBMX_BUILD;
+    int fd = ndbm_file_open(asked->path, asked->flags, mode, how, &db->file);
+    if (fd < 0) return ndbm_fault_of(errno, asked->flags);
+    if (builds && ndbm_aside_is_wanted(asked->path, asked->flags)) {
+        close(fd);
+        return OVERTAKEN;
+    }
+    builds = builds && ndbm_turn_is_made(fd, &asked->how);
+    if (how->options & DBMX_SHARED) return ndbm_shared_open(&db->served, fd, &db->file, asked);
+    int fault = ndbm_served_open(&db->served, fd, &asked->how);
+    if (!fault && builds) ndbm_building_begins(&db->building, &asked->how);
+    return fault;
+}
+
+/* the same of a database that is built beside the file */
+static int open_aside(DBM *db, const struct asked *asked) {
+    int fault = ndbm_aside_open(&db->aside, &db->served, asked, &db->file);
+    if (!fault) ndbm_building_begins(&db->building, &asked->how);
+    return fault;
+}
+
 static int open_path(DBM *db, const char *path, int flags, mode_t mode, const dbmx_how *how) {
-    int fd = ndbm_file_open(path, flags, mode, how, &db->file);
-    if (fd < 0) return ndbm_fault_of(errno, flags);
     const struct asked asked = {path, flags, how->wait, how_of(flags, how)};
+    int fault;
     db->writable = asked.how.writable;
     db->is_locked = !(how->options & DBMX_UNLOCKED);
-    db->stand_in = -1;
-    if (how->options & DBMX_SHARED) return ndbm_shared_open(&db->served, fd, &db->file, &asked);
-    return ndbm_served_open(&db->served, fd, &asked.how);
+    do {
+        bool is_aside = (how->options & DBMX_BUILD) && ndbm_aside_is_wanted(path, flags);
+        fault = is_aside ? open_aside(db, &asked) : open_in_place(db, &asked, mode, how);
+    } while (fault == OVERTAKEN);
+    return fault;
 }
 
 static int open_database(DBM *db, const char *file, int flags, mode_t mode, const dbmx_how *how) {
-    char *path = path_of(file);
+    char *path = ndbm_naming_path(file);
     if (!path) return MEMORY;
-    int fault = open_path(db, path, flags, mode, how), error = errno;
+    int fault = ndbm_naming_open_dir(file, flags, mode, &db->dir) ? ndbm_fault_of(errno, flags) : open_path(db, path, flags, mode, how);
+    if (fault && db->dir >= 0) ndbm_give_up(db->dir);
+    int error = errno;
     free(path);
     errno = error;
     return fault;
@@ -84,15 +109,16 @@ static int open_database(DBM *db, const char *file, int flags, mode_t mode, cons
 
 /* whether the options are known and go together, and so many pages may be kept */
 static bool is_how(const dbmx_how *how) {
-    if (how->options & ~(DBMX_UNLOCKED | DBMX_VERSION_1 | DBMX_PAGES | DBMX_SHARED)) return false;
+    if (how->options & ~(DBMX_UNLOCKED | DBMX_VERSION_1 | DBMX_PAGES | DBMX_SHARED | DBMX_BUILD)) return false;
     if ((how->options & DBMX_SHARED) && (how->options & (DBMX_UNLOCKED | DBMX_VERSION_1))) return false;
+    if ((how->options & DBMX_BUILD) && (how->options & (DBMX_UNLOCKED | DBMX_SHARED))) return false;
     return !(how->options & DBMX_PAGES) || (how->pages && how->pages <= MOST_PAGES);
 }
 
 /* how a database is opened where the program doesn't say it */
 static dbmx_how plain(void) {
-    if (!ndbm_environment_shares()) return (dbmx_how){.wait = ndbm_environment_wait(WAIT)};
-    return (dbmx_how){.wait = ndbm_environment_wait(WAIT_OF_A_CALL), .options = DBMX_SHARED};
+    if (ndbm_environment_shares()) return (dbmx_how){.wait = ndbm_environment_wait(WAIT_OF_A_CALL), .options = DBMX_SHARED};
+    return (dbmx_how){.wait = ndbm_environment_wait(WAIT), .options = ndbm_environment_builds() ? DBMX_BUILD : 0};
 }
 
 /* What the program says. The member pages is one that it may lack. */
@@ -114,6 +140,10 @@ static DBM *opened(const char *file, int flags, mode_t mode, const dbmx_how *ask
     }
     int before = errno;
     DBM *db = malloc(sizeof *db);
+    if (db) {
+        db->building = (struct building){.is_under_way = false, .kept = NULL};
+        db->aside = (struct aside){.is_under_way = false};
+    }
     *fault = db ? open_database(db, file, flags, mode, &how) : MEMORY;
     if (!*fault) {
         errno = before;
@@ -135,24 +165,40 @@ DBM *dbmx_open(const char *file, int flags, mode_t mode, const dbmx_how *how, in
     return opened(file, flags, mode, how, fault ? fault : &number);
 }
 
+/* Of two failures the first one is told. */
+static void close_own(DBM *db) {
+    int status = ndbm_building_commits(&db->building, &db->served), error = errno;
+    if (db->aside.is_under_way) {
+        ndbm_aside_close(&db->aside, &db->served);
+    } else {
+        ndbm_served_close(&db->served);
+    }
+    if (status) errno = error;
+}
+
 void dbm_close(DBM *db) {
     if (!db) {
         misuse();
         return;
     }
-    int before = errno;
-    if (db->stand_in >= 0) close(db->stand_in);
-    errno = before;
     if (db->served.shared) {
         ndbm_shared_close(&db->served);
     } else if (is_own(db)) {
-        ndbm_served_close(&db->served);
+        close_own(db);
     } else {
         ndbm_served_leave(&db->served);
+        ndbm_aside_leave(&db->aside);
     }
     int error = errno;
+    ndbm_building_ends(&db->building);
+    if (db->dir >= 0) close(db->dir);
     free(db);
     errno = error;
+}
+
+/* whether a call may begin that reads this, behind the pairs that a build has kept; where it may not, errno says why */
+static bool begins(DBM *db, enum reading reading, bool changes) {
+    return !ndbm_building_commits(&db->building, &db->served) && ndbm_served_begins(&db->served, reading, changes);
 }
 
 static datum given(int32_t status, void *at, size_t length) {
@@ -175,7 +221,7 @@ static int32_t fetch_apart(struct served *served, datum key, unsigned char *cont
 datum dbm_fetch(DBM *db, datum key) {
     size_t length = 0;
     if (!is_own(db) || !is_datum(key)) return given(misuse(), NULL, 0);
-    if (!ndbm_served_begins(&db->served, OF_PAIR, false)) return given(-1, NULL, 0);
+    if (!begins(db, OF_PAIR, false)) return given(-1, NULL, 0);
     int32_t status = fetch_apart(&db->served, key, db->content, &length);
     return given(ndbm_served_ends(&db->served, status), db->content, length);
 }
@@ -185,7 +231,7 @@ static datum next_of_pass(DBM *db, bool is_first) {
     size_t length = 0;
     int32_t status;
     if (!is_own(db)) return given(misuse(), NULL, 0);
-    if (!ndbm_served_begins(&db->served, OF_FILE, false)) return given(-1, NULL, 0);
+    if (!begins(db, OF_FILE, false)) return given(-1, NULL, 0);
     is_first = is_first || ndbm_shared_begins_pass(&db->served);
     do {
         status = (is_first ? ndbm_c_firstkey : ndbm_c_nextkey)(&db->served.handle, db->key, &length);
@@ -202,27 +248,19 @@ datum dbm_nextkey(DBM *db) {
     return next_of_pass(db, false);
 }
 
-static int store(DBM *db, datum key, datum content, bool replace) {
-    const unsigned char *bytes = bytes_of(content);
-    int32_t status;
-    if (!is_datum(key) || !is_datum(content)) return misuse();
-    if (!ndbm_served_begins(&db->served, OF_PAIR, true)) return -1;
-    do {
-        status = ndbm_c_store(&db->served.handle, bytes_of(key), key.dsize, bytes, content.dsize, replace);
-    } while (ndbm_served_again(&db->served, status));
-    status = ndbm_served_ends(&db->served, status);
-    return status < 0 ? -1 : status;
-}
-
 int dbm_store(DBM *db, datum key, datum content, int store_mode) {
+    const dbmx_pair pair = {key, content};
+    bool replace = store_mode == DBM_REPLACE;
     if (!is_own(db) || (store_mode != DBM_INSERT && store_mode != DBM_REPLACE)) return misuse();
-    return store(db, key, content, store_mode == DBM_REPLACE);
+    if (!is_datum(key) || !is_datum(content)) return misuse();
+    if (!db->building.is_under_way) return ndbm_store_one(&db->served, &pair, replace);
+    return ndbm_building_store(&db->building, &db->served, &pair, replace);
 }
 
 int dbm_delete(DBM *db, datum key) {
     int32_t status;
     if (!is_own(db) || !is_datum(key)) return misuse();
-    if (!ndbm_served_begins(&db->served, OF_PAIR, true)) return -1;
+    if (!begins(db, OF_PAIR, true)) return -1;
     do {
         status = ndbm_c_delete(&db->served.handle, bytes_of(key), key.dsize);
     } while (ndbm_served_again(&db->served, status));
@@ -231,8 +269,13 @@ int dbm_delete(DBM *db, datum key) {
     return status ? -1 : 0;
 }
 
+/* Pairs that are kept are stored before it, so that it tells the fault of that too. */
 int dbm_error(DBM *db) {
-    return is_own(db) ? ndbm_served_error(&db->served) : misuse();
+    if (!is_own(db)) return misuse();
+    int before = errno;
+    ndbm_building_commits(&db->building, &db->served);
+    errno = before;
+    return ndbm_served_error(&db->served);
 }
 
 int dbm_clearerr(DBM *db) {
@@ -243,14 +286,14 @@ int dbm_pagfno(DBM *db) {
     return is_own(db) ? db->served.fd : misuse();
 }
 
-/* Of a file that the library doesn't lock it is the file's descriptor. */
+/* Where there is no FILE.dir, it is the file's descriptor of a file that the library doesn't lock. */
 int dbm_dirfno(DBM *db) {
     if (!is_own(db)) return misuse();
-    if (!db->is_locked) return db->served.fd;
+    if (db->dir < 0 && !db->is_locked) return db->served.fd;
     int before = errno;
-    if (db->stand_in < 0) db->stand_in = ndbm_file_stand_in(&db->file);
-    if (db->stand_in >= 0) errno = before;
-    return db->stand_in;
+    if (db->dir < 0) db->dir = ndbm_file_stand_in(&db->file);
+    if (db->dir >= 0) errno = before;
+    return db->dir;
 }
 
 int dbm_rdonly(DBM *db) {
@@ -261,7 +304,7 @@ int dbm_rdonly(DBM *db) {
 static int call(DBM *db, int32_t (*export)(struct handle *), bool changes) {
     int32_t status;
     if (!is_own(db)) return misuse();
-    if (!ndbm_served_begins(&db->served, OF_FILE, changes)) return -1;
+    if (!begins(db, OF_FILE, changes)) return -1;
     do {
         status = export(&db->served.handle);
     } while (ndbm_served_again(&db->served, status));
@@ -273,34 +316,20 @@ int dbmx_sync(DBM *db) {
     return call(db, ndbm_c_sync, true);
 }
 
-/* Stores the first of the pairs, in one commit, and adds how many to `done`. */
-static int store_some(DBM *db, const dbmx_pair *pairs, size_t count, size_t *done) {
-    size_t n = ndbm_group_size(pairs, count), stored = 0;
-    if (n) {
-        if (!ndbm_served_begins(&db->served, OF_PAIR, true)) return -1;
-        if (ndbm_served_ends(&db->served, ndbm_group_store(&db->served, pairs, n, &stored))) return -1;
-    }
-    *done += stored;
-    if (stored) return 0;
-    int status = store(db, pairs->key, pairs->content, true);
-    *done += !status;
-    return status;
-}
-
 int dbmx_store_many(DBM *db, const dbmx_pair *pairs, size_t count, size_t *stored) {
     size_t done = 0;
-    int status = 0;
     if (stored) *stored = 0;
     if (!is_own(db) || (!pairs && count)) return misuse();
-    while (!status && done < count) status = store_some(db, pairs + done, count - done, &done);
+    if (ndbm_building_commits(&db->building, &db->served)) return -1;
+    int status = ndbm_store_list(&db->served, pairs, count, &done);
     if (stored) *stored = done;
-    return status ? -1 : 0;
+    return status;
 }
 
 int dbmx_stat(DBM *db, dbmx_numbers *numbers) {
     int32_t status;
     if (!is_own(db) || !numbers) return misuse();
-    if (!ndbm_served_begins(&db->served, OF_FILE, false)) return -1;
+    if (!begins(db, OF_FILE, false)) return -1;
     do {
         status = ndbm_c_stat(&db->served.handle, numbers);
     } while (ndbm_served_again(&db->served, status));

@@ -39,14 +39,14 @@ typedef struct ndbm_database DBM;
 #define DBM_INSERT 0
 #define DBM_REPLACE 1
 
-/* what the name of a database's file has behind the name that dbm_open is given */
+/* what the name of a database's file has behind the name that dbm_open is given, where it is one file */
 #define DBM_SUFFIX ".db"
 
 /* Where a call fails, it answers -1 or a null pointer, and errno says why. A call that succeeds leaves errno as it was. */
 
-/* Opens the database in the file `file`.db; mode is that of a file that is made, which is of version 2 of the file format. Where
- * another opening has the file it is tried again for 5 seconds, or for those of KUMQUATFEN_WAIT in the environment, 0 to 86400, and
- * then fails with EAGAIN. */
+/* Opens the database in the file `file`.db; mode is that of a file that is made, which is of version 2 of the file format. With
+ * KUMQUATFEN_NAMES=pag in the environment that is `file`.pag, with the empty file `file`.dir beside it. Where another opening has the
+ * file it is tried again for 5 seconds, or for those of KUMQUATFEN_WAIT in the environment, 0 to 86400, and then fails with EAGAIN. */
 DBM *dbm_open(const char *file, int flags, mode_t mode);
 void dbm_close(DBM *db);
 /* 0, or 1 where DBM_INSERT finds the key */
@@ -62,11 +62,12 @@ datum dbm_nextkey(DBM *db);
 int dbm_error(DBM *db);
 int dbm_clearerr(DBM *db);
 
-/* The file's descriptor, which has the lock. It is for fstat and the like. To lock it or to unlock it changes or ends the lock. */
+/* The file's descriptor, which has the lock; that of the new file, where one is built beside the old one. It is for fstat and the like.
+ * To lock it or to unlock it changes or ends the lock. */
 int dbm_pagfno(DBM *db);
 /* The descriptor of an empty file that has no name, for programs that lock it around their calls: any lock of it is had at once, keeps
  * nobody out, and leaves that of the database. It has the mode and the times that the database's file had when it was opened. With
- * DBMX_UNLOCKED it is the file's descriptor. */
+ * DBMX_UNLOCKED it is the file's descriptor. Where there is `file`.dir it is that one's, and locks of it are the program's alone. */
 int dbm_dirfno(DBM *db);
 /* 1 where the database was opened for reading, else 0 */
 int dbm_rdonly(DBM *db);
@@ -89,6 +90,12 @@ int dbm_rdonly(DBM *db);
  * with ENOTSUP: `dbmtool upgrade --syncs 1 FILE` makes it one of the second. KUMQUATFEN_SHARED=1 in the environment is as this option
  * for dbm_open, and for dbmx_open where how is null. */
 #define DBMX_SHARED 8u
+/* An option of dbmx_how: a database that this opening makes or empties is built. Up to dbm_close its stores share commits, so pairs that
+ * were answered may not be on the disk before any other call with it, and dbmx_sync tells whether they are. One that is emptied (O_TRUNC)
+ * is built in the file `file`.db.new, and takes the place of the old one at dbm_close: others read that meanwhile, and nobody writes it.
+ * It goes with neither DBMX_UNLOCKED nor DBMX_SHARED. KUMQUATFEN_BUILD=1 in the environment is as this option for dbm_open, and for
+ * dbmx_open where how is null. */
+#define DBMX_BUILD 16u
 
 /* how a database is opened; all members 0: as dbm_open does, but no lock is waited for */
 typedef struct {
@@ -97,7 +104,7 @@ typedef struct {
     /* For so many seconds the opening is tried again where another program has the file open. With DBMX_SHARED it is for so many that each
      * call waits, and 0 is for 10. */
     unsigned wait;
-    /* 0, or of DBMX_UNLOCKED, DBMX_VERSION_1, DBMX_PAGES and DBMX_SHARED those that are wanted */
+    /* 0, or of DBMX_UNLOCKED, DBMX_VERSION_1, DBMX_PAGES, DBMX_SHARED and DBMX_BUILD those that are wanted */
     unsigned options;
     /* with DBMX_PAGES: how many pages of the file, of 2048 bytes each, are kept in memory at most, 1 to 65536; without: 16384 */
     unsigned pages;

@@ -88,7 +88,7 @@ int32_t ndbm_c_listed(struct handle *, size_t i, uint32_t *sector, unsigned char
 /* All that was listed is carried out. The list is empty then, and the device forgets which sectors it knew. */
 int32_t ndbm_c_carried_out(struct handle *);
 
-/* The arguments of a program, in ndbm.c and groups.c. */
+/* The arguments of a program, in ndbm.c, groups.c and storing.c. */
 
 static inline bool is_datum(datum it) {
     return (it.dptr || !it.dsize) && it.dsize <= PTRDIFF_MAX;
@@ -109,6 +109,8 @@ ssize_t ndbm_bytes_read(int fd, unsigned char *bytes, size_t size, off_t at);
 int ndbm_bytes_write(int fd, const unsigned char *bytes, size_t size, off_t at);
 /* Syncs them: 0, or the system's number. */
 int ndbm_bytes_sync(int fd);
+/* The same with all else that the system keeps of a file, or of a folder. */
+int ndbm_bytes_sync_all(int fd);
 /* Closes a descriptor, keeps errno, and answers -1. */
 int ndbm_give_up(int fd);
 
@@ -128,6 +130,8 @@ enum { HEAD = 520, TURN_SECTOR = 1 };
 struct head ndbm_turn_of(const unsigned char *bytes);
 /* what those of the file say: 0, or -1 with errno */
 int ndbm_turn_look(int fd, struct head *);
+/* whether an opening makes a database in the file, or empties one, and so writes */
+bool ndbm_turn_is_made(int fd, const struct how *);
 
 /* The turn as an opening of the file knows it, and whether this opening has made it odd, and not even since. */
 struct turn {
@@ -217,6 +221,10 @@ int ndbm_served_open(struct served *, int fd, const struct how *how);
 int ndbm_served_holds(struct served *, const struct how *how);
 /* Closes it, and its descriptor. errno says where that failed, and else is as it was. */
 void ndbm_served_close(struct served *);
+/* Closes it, and its descriptor stays open: 0, or the number of errno. */
+int ndbm_served_shut(struct served *);
+/* From here on the handle is dead. It has a fault then. */
+void ndbm_served_dies(struct served *);
 /* Gives back the memory and the descriptor that a child of the process which opened it has. Nothing is written, and errno stays. */
 void ndbm_served_leave(struct served *);
 /* whether a call that reads this may begin, which may change pairs or only reads; where it may not, errno says why */
@@ -243,10 +251,48 @@ int ndbm_carry_out(struct served *);
 
 /* groups.c: pairs that are stored in one commit. */
 
+/* how many pairs a commit has at most, and how much it may have of their bytes */
+enum { GROUP_PAIRS = 8192, GROUP_BYTES = 1 << 20 };
+
+/* how many pairs a group has, and how much of one they take, which is no less than their bytes are */
+struct extent {
+    size_t count, size;
+};
+
+/* Whether a pair goes into a group of this extent, which then has it. */
+bool ndbm_group_takes(struct extent *, const dbmx_pair *pair);
 /* how many of the pairs, from the first on, go into one */
 size_t ndbm_group_size(const dbmx_pair *pairs, size_t count);
+/* whether a database of version 1 may have the pair too */
+bool ndbm_group_is_near(const dbmx_pair *pair);
 /* Stores them, within a call, and answers the status, and in `stored` how many are stored. */
 int32_t ndbm_group_store(struct served *, const dbmx_pair *pairs, size_t count, size_t *stored);
+
+/* storing.c: stores of pairs, each of which begins and ends calls. */
+
+/* 0, or 1 where the key is there and stays, or -1 with errno */
+int ndbm_store_one(struct served *, const dbmx_pair *, bool replace);
+/* Stores them as by DBM_REPLACE, in their order: 0, or -1 with errno, and in `done` how many are stored, from the first on. */
+int ndbm_store_list(struct served *, const dbmx_pair *pairs, size_t count, size_t *done);
+
+/* building.c: stores that share commits. */
+
+struct kept;
+
+struct building {
+    bool is_under_way, is_first_version;
+    /* the pairs that wait for a commit, or null */
+    struct kept *kept;
+};
+
+/* Stores share commits from here on, in a database that was made or emptied so. */
+void ndbm_building_begins(struct building *, const struct how *);
+/* Gives memory back, with pairs that were kept. errno stays. */
+void ndbm_building_ends(struct building *);
+/* As ndbm_store_one, but the pair may be kept, up to a commit with others. */
+int ndbm_building_store(struct building *, struct served *, const dbmx_pair *, bool replace);
+/* Stores the pairs that are kept: 0, or -1 with errno, and the handle is dead then. With none it does nothing. */
+int ndbm_building_commits(struct building *, struct served *);
 
 /* environment.c: what the environment says to programs that can't be changed. */
 
@@ -254,6 +300,20 @@ int32_t ndbm_group_store(struct served *, const dbmx_pair *pairs, size_t count, 
 unsigned ndbm_environment_wait(unsigned otherwise);
 /* whether a program that doesn't say how it opens a database shares it: KUMQUATFEN_SHARED is 1 */
 bool ndbm_environment_shares(void);
+/* whether such a program builds one that it makes or empties: KUMQUATFEN_BUILD is 1 */
+bool ndbm_environment_builds(void);
+/* Whether the files of a database are FILE.pag and FILE.dir, and not FILE.db, by KUMQUATFEN_NAMES. Where that says nothing they are so in
+ * a library that was compiled with KUMQUATFEN_NAMES_PAG. */
+bool ndbm_environment_has_two_names(void);
+
+/* naming.c: the names of the files of a database. */
+
+/* Both texts in one, as the others here, in memory of their own; null where there is none. */
+char *ndbm_naming_joined(const char *text, const char *behind);
+/* the path of the file with the pairs */
+char *ndbm_naming_path(const char *file);
+/* Opens FILE.dir where there are two files, or makes it: 0, and in `dir` its descriptor, or -1 where it isn't there; -1 with errno. */
+int ndbm_naming_open_dir(const char *file, int flags, mode_t mode, int *dir);
 
 /* file.c: opening a file. */
 
@@ -266,8 +326,16 @@ int ndbm_fault_of(int error, int flags);
 int ndbm_file_open(const char *path, int flags, mode_t mode, const dbmx_how *how, struct stat *);
 /* The same of a file that is there, by its name in a folder. It isn't locked. */
 int ndbm_file_open_named(int folder, const char *name, int flags, struct stat *);
-/* the descriptor of the folder of a path, by which names in it are looked at, or -1 with errno */
-int ndbm_file_open_folder(const char *path);
+/* The descriptor of a file that isn't there, made by this name in a folder, which its owner alone may open; -1 with errno. */
+int ndbm_file_make_named(int folder, const char *name, int flags);
+/* the descriptor of a file that has no lock of the library, opened, or made where the flags say so; -1 with errno */
+int ndbm_file_open_empty(const char *path, int flags, mode_t mode);
+/* the descriptor of the folder of a path, opened as `way` says, by which names in it are looked at, or -1 with errno */
+int ndbm_file_open_folder(const char *path, int way);
+/* Locks a file, alone or together with others, within a moment where it is waited for: 0, or -1 with errno. */
+int ndbm_file_lock(int fd, bool alone, bool waits);
+/* Whether a try that began at this time, and failed by errno, is made again. Its time has come then. */
+bool ndbm_file_is_tried_again(uint64_t began, uint64_t until);
 /* The descriptor of a new file that has no name and no bytes, and this mode and these times; -1 with errno where there is none.
  * Nobody else has it, so any lock of it is had at once. */
 int ndbm_file_stand_in(const struct stat *);
@@ -346,6 +414,26 @@ void ndbm_shared_ends(struct served *, bool is_cut_short);
 bool ndbm_shared_begins_pass(const struct served *);
 /* Notes what the first or the next key of a pass was, by the status of its export. */
 void ndbm_shared_passed(struct served *, bool is_first, int32_t status, const unsigned char *key, size_t length);
+
+/* aside.c: a database that is built in a file beside the one whose place it takes. */
+
+struct aside {
+    bool is_under_way;
+    /* the folder, and the old file, which is locked together with others */
+    int folder, old;
+    /* the name of the old file, and that of the one beside it */
+    char *name, *beside;
+};
+
+/* whether an opening with these flags empties a file that has bytes */
+bool ndbm_aside_is_wanted(const char *path, int flags);
+/* Opens a database in a new file beside the one of the path, and tells of the old one: 0, or the number of the fault, with errno. */
+int ndbm_aside_open(struct aside *, struct served *, const struct asked *, struct stat *old);
+/* Closes the database and its descriptor, and gives its file the name of the old one, which stays where anything fails. errno says that,
+ * and else is as it was. */
+void ndbm_aside_close(struct aside *, struct served *);
+/* Gives back what a child has of one. */
+void ndbm_aside_leave(struct aside *);
 
 /* Locks the file, alone or together with others, and looks at its name and its turn: 0, or -1 with errno, and nothing is held then. */
 int ndbm_period_begins(struct served *, bool alone);

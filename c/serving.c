@@ -59,8 +59,8 @@ int ndbm_served_open(struct served *it, int fd, const struct how *how) {
     return fault;
 }
 
-void ndbm_served_close(struct served *it) {
-    int before = errno, error = it->is_dead ? EIO : 0;
+int ndbm_served_shut(struct served *it) {
+    int error = it->is_dead ? EIO : 0;
     if (!it->is_dead) {
         it->given = 0;
         it->system = 0;
@@ -71,6 +71,11 @@ void ndbm_served_close(struct served *it) {
     }
     ndbm_c_drop(&it->handle);
     ndbm_owner_ends(&it->owner);
+    return error;
+}
+
+void ndbm_served_close(struct served *it) {
+    int before = errno, error = ndbm_served_shut(it);
     /* The descriptor is closed also where a signal came. */
     if (close(it->fd) && errno != EINTR && !error) error = ndbm_system_number();
     errno = error ? error : before;
@@ -80,6 +85,12 @@ void ndbm_served_leave(struct served *it) {
     ndbm_c_drop(&it->handle);
     ndbm_owner_ends(&it->owner);
     ndbm_give_up(it->fd);
+}
+
+void ndbm_served_dies(struct served *it) {
+    int fault = ndbm_served_error(it);
+    it->fault = fault ? fault : BROKEN;
+    it->is_dead = true;
 }
 
 bool ndbm_served_begins(struct served *it, enum reading reading, bool changes) {

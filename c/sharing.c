@@ -91,17 +91,10 @@ void ndbm_shared_passed(struct served *it, bool is_first, int32_t status, const 
     memcpy(shared->last, key, length);
 }
 
-/* Whether the opening makes a database, or empties one, and so writes. */
-static bool makes(const struct served *it, const struct how *how) {
-    struct head head;
-    if (!how->writable || how->truncate) return how->writable;
-    return how->create && (how->exclusive || (!ndbm_turn_look(it->fd, &head) && head.kind == NO_KIND));
-}
-
 /* The first period of a handle. Where it makes nothing it only reads, so that many may be opened at once. */
 static int hold_first(struct served *it, const struct how *asked) {
     struct how how = *asked;
-    how.writable = makes(it, asked);
+    how.writable = ndbm_turn_is_made(it->fd, asked);
     if (begin(it, how.writable)) return it->fault;
     int fault = hold_anew(it, &how), error = errno;
     ndbm_shared_ends(it, fault != 0);

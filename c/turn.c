@@ -36,6 +36,12 @@ int ndbm_turn_look(int fd, struct head *it) {
     return 0;
 }
 
+bool ndbm_turn_is_made(int fd, const struct how *how) {
+    struct head head;
+    if (!how->writable || how->truncate) return how->writable;
+    return how->create && (how->exclusive || (!ndbm_turn_look(fd, &head) && head.kind == NO_KIND));
+}
+
 static int write_turn(int fd, uint64_t number) {
     unsigned char bytes[SIZE];
     for (unsigned i = SIZE; i > 0; number >>= 8) bytes[--i] = (unsigned char)number;

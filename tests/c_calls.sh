@@ -1,6 +1,7 @@
 #!/usr/bin/env bash
 # The programs in c/test call the C library, each in a folder of its own, linked to the archive and to the shared library. They
-# tell what is wrong. Those of handles that share a file, shared_*.c, are left to tests/c_sharing.sh.
+# tell what is wrong. Those of handles that share a file, shared_*.c, are left to tests/c_sharing.sh, and those of builds, build_*.c, to
+# tests/c_builds.sh.
 . "$(dirname "$0")/common"
 has_library
 
@@ -22,7 +23,7 @@ $(head -n 30 told)"
 programs=0
 for file in "$top"/c/test/*.c; do
   name=$(basename "$file" .c)
-  [[ $name != shared_* ]] || continue
+  [[ $name != shared_* && $name != build_* ]] || continue
   calls archive "$name" "$library/libndbm.a"
   calls shared "$name" "-L$library" "-Wl,-rpath,$library" -lndbm
   readelf -d "$work/$name.shared/program" | grep -q 'NEEDED.*libndbm\.so\.1' || wrong "$name isn't linked to libndbm.so.1"

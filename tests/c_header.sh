@@ -129,7 +129,7 @@ for file in ndbm.c ndbm.h parts.h serving.c sharing.c turn.c file.c owner.c buil
 done
 another/c/build --archive "$library/libndbm.a" --is-built && wrong "another archive goes unseen"
 another/c/build --unknown 2> err; [ $? = 3 ] && grep -q '^usage: ' err || wrong "c/build takes unknown words"
-grep -q "^const VERSION: &str = \"$version, " "$top/crates/dbm_command_line/src/commands.rt" ||
+grep -q "^const KNOWN_VERSIONS: &str = \"$version, " "$top/crates/dbm_command_line/src/commands.rt" ||
   wrong "kumquatfen-ndbm.pc is of version '$version'"
 
 # the compiler and the words of the environment, behind the library's own

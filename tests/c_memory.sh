@@ -2,7 +2,7 @@
 # The programs in c/test touch no memory that isn't theirs, and lose none, as memcheck of valgrind sees it; and as the
 # sanitizers of the compiler do, with which the C of the library is compiled over the crate's archive. A program that brings
 # a malloc of its own is left to tests/c_calls.sh and c_sharing.sh alone, and one with long lists of pairs or with a thousand children,
-# which takes minutes under memcheck, to the sanitizers.
+# which takes minutes under memcheck, or that kills its children at a time or at a call of the system, to the sanitizers.
 . "$(dirname "$0")/common"
 has_library
 . "$top/tests/c_words"
@@ -44,7 +44,7 @@ else
   "${memcheck[@]}" ./past 2> err
   [ $? = 99 ] || wrong "valgrind doesn't see a read past the memory: $(head -n 5 err)"
   for name in "${names[@]}"; do
-    [ "$name" != beyond ] && [ "$name" != shared_deaths ] || continue
+    [ "$name" != beyond ] && [ "$name" != shared_deaths ] && [[ $name != build_sto* ]] || continue
     cc "${flags[@]}" -o "$work/valgrind/$name" "$top/c/test/$name.c" "$library/libndbm.a" -pthread ||
       wrong "$name isn't compiled"
     runs valgrind "$name" "${memcheck[@]}"

@@ -27,7 +27,7 @@ static void missing(void) {
 }
 
 static void misuse(void) {
-    dbmx_how how = {.options = DBMX_SHARED << 1};
+    dbmx_how how = {.options = DBMX_BUILD << 1};
     FAILS(EINVAL, !dbm_open(NULL, O_RDWR | O_CREAT, 0644));
     REFUSED(EINVAL, 0, NULL, O_RDWR | O_CREAT, NULL);
     REFUSED(EINVAL, 0, "none", O_RDWR | O_CREAT, &how);

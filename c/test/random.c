@@ -23,6 +23,9 @@ static struct pair *known[KNOWN];
 static size_t known_count, there_count;
 static struct kept kept_key, kept_content;
 static bool is_reader, is_passing;
+/* Whether RANDOM_BUILDS is 1: the file is built by one opening then, and the fault is asked for now and then alone, since that has the pairs
+ * stored that wait. */
+static bool builds;
 static int fault, call_number, version = 1;
 /* the seed */
 static uint64_t state = 88172645463325252;
@@ -110,7 +113,7 @@ static bool stands(const struct kept *kept) {
 static void ended(int number, int own, const char *what) {
     demand(errno == (number ? number : UNTOUCHED), what);
     if (!fault) fault = own;
-    demand(dbm_error(db) == fault, "another fault is told");
+    demand((builds && below(20)) || dbm_error(db) == fault, "another fault is told");
     demand(stands(&kept_key), "the bytes of a key have changed");
     demand(stands(&kept_content), "the bytes of a content have changed");
 }
@@ -287,12 +290,13 @@ static void store_list(void) {
 }
 
 static void open_again(void) {
+    if (builds && db && call_number <= CALLS) return;
     if (db) {
         errno = UNTOUCHED;
         dbm_close(db);
         demand(errno == UNTOUCHED, "errno of a close");
     }
-    dbmx_how how = {.limit = LIMIT, .options = DBMX_VERSION_1};
+    dbmx_how how = {.limit = LIMIT, .options = DBMX_VERSION_1 | (builds ? DBMX_BUILD : 0)};
     is_reader = db && !below(3);
     is_passing = false;
     forget(&kept_key);
@@ -373,6 +377,7 @@ static void leave(void) {
 
 int main(void) {
     int before = open_descriptors();
+    builds = getenv("RANDOM_BUILDS");
     if (mkdtemp(folder) && (chdir(folder) || atexit(leave))) exit(2);
     open_again();
     for (call_number = 1; call_number <= CALLS; call_number++) call();
