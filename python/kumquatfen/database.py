@@ -203,34 +203,36 @@ class Group:
         self._pairs = []
 
 
-def how_of(wait, shared, limit, pages, version):
+def how_of(wait, shared, build, limit, pages, version):
     """How a database is opened, or None where nothing is said of it."""
-    if (wait, shared, limit, pages, version) == (None, False, None, None, 2):
+    if (wait, shared, build, limit, pages, version) == (None, False, False, None, None, 2):
         return None
     if version not in (1, 2):
         raise ValueError("a file is of version 1 or 2")
     options = Option.SHARED if shared else Option(0)
+    options |= Option.BUILD if build else Option(0)
     options |= Option.PAGES if pages is not None else Option(0)
     options |= Option.VERSION_1 if version == 1 else Option(0)
     seconds = wait if wait is not None else WAIT_OF_A_CALL if shared else WAIT
     return How(limit or 0, seconds, options, pages or 0)
 
 
-def open(file, flag="r", mode=0o666, *, wait=None, shared=False, limit=None, pages=None, version=2):
+def open(file, flag="r", mode=0o666, *, wait=None, shared=False, build=False, limit=None, pages=None, version=2):
     """Opens the database in the file `file`.db.
 
     The flag is r for reading, w for writing, c to make it where it isn't there, n for an empty one; the mode is that of a file that is
     made. Another opening of the file is waited for: `wait` seconds, 5 where that isn't said, and then the error is EAGAIN. A database
-    that is shared is locked within each call alone. `limit` is how many pairs a new one may have, of 1,000,000 where that isn't said,
+    that is shared is locked within each call alone. The stores of one that is built, and that this opening makes or empties, share
+    commits until it is closed; one that was there stays until then, when the new one takes its place. `limit` is how many pairs a new one may have, of 1,000,000 where that isn't said,
     and `version` its format. `pages` is how many pages are kept in memory at most. Where none of these is said the environment is
-    looked at: KUMQUATFEN_WAIT and KUMQUATFEN_SHARED.
+    looked at: KUMQUATFEN_WAIT, KUMQUATFEN_SHARED and KUMQUATFEN_BUILD.
     """
     if flag not in FLAGS:
         raise ValueError("the flag is one of r, w, c and n")
     name, fault = os.fsencode(file), ctypes.c_int(0)
     if b"\0" in name:
         raise ValueError("there is a null byte in the name")
-    how = how_of(wait, shared, limit, pages, version)
+    how = how_of(wait, shared, build, limit, pages, version)
     ctypes.set_errno(0)
     handle = ndbm.dbmx_open(name, FLAGS[flag], mode, None if how is None else ctypes.byref(how), ctypes.byref(fault))
     if not handle:

@@ -43,6 +43,7 @@ class Option(IntFlag):
     VERSION_1 = 2
     PAGES = 4
     SHARED = 8
+    BUILD = 16
 
 
 class Mode(IntEnum):

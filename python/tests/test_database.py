@@ -74,6 +74,20 @@ class Openings(InFolder):
         kumquatfen.open(Path(), "c").close()
         kumquatfen.open(self.name.encode()).close()
 
+    def test_build(self):
+        with kumquatfen.open(self.name, "c") as db:
+            db["old"] = "1"
+        old = kumquatfen.open(self.name)
+        self.addCleanup(old.close)
+        with kumquatfen.open(self.name, "n", build=True) as db:
+            db["new"] = "2"
+            self.assertEqual((dict(db), dict(old)), ({b"new": b"2"}, {b"old": b"1"}))
+            self.assertTrue(os.path.exists(f"{self.name}.db.new"))
+        self.assertEqual(dict(old), {b"old": b"1"})
+        self.assertEqual(dict(self.opened()), {b"new": b"2"})
+        self.assertFalse(os.path.exists(f"{self.name}.db.new"))
+        self.fails(errno.EINVAL, kumquatfen.open, self.name, build=True, shared=True)
+
     def test_options(self):
         db = self.opened("c", limit=5, version=1, pages=16)
         self.assertEqual((db.stat().limit, db.version()), (5, 1))

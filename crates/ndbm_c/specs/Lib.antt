@@ -1,7 +1,10 @@
+pub mod Chains
 pub mod Groups
 pub mod Handle
 pub mod Held
+pub mod Holders
 pub mod Looks
 pub mod Opening
+pub mod Periods
 pub mod Serving
 pub mod Sharing

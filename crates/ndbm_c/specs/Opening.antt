@@ -86,6 +86,7 @@ pub record IsRefusal (how : OpenHow) (dev left : ListedDev) (fault : code.Fault)
       (IsOutcome served.left_since (settled (served.sectors dev / 4))) dev left
       (MayRemain how (served.sectors dev) (served.candidate dev))
   pub only_reads : writes how.access ≡ false → OnlyReads served dev left
+  pub size : how.truncate ≡ false → served.sectors left ≡ served.sectors dev
 
 -- an opening of a device, by its status; what is no device stays
 abbrev pub OpensAs : OpenHow → Open → Open → ℤ → Type 0

@@ -55,6 +55,7 @@ pub record ToldDevice (told : Told) (old new : ListedDev) : Type 0 where
   pub history : history new ≡ history old
   pub listed : list_of new ≡ listed_after told (list_of old)
   pub lacked : lacked_by new ≡ None
+  pub size : served.sectors new ≡ served.sectors old
 
 -- a database whose device was told so, and which is at the handle that it was at
 pub record ToldDatabase (told : Told) (old new : Opened) : Type 0 where

@@ -15,4 +15,4 @@ mod reads;
 mod serving;
 mod sharing;
 
-pub use sharing::rests_on_disk;
+pub use sharing::{periods_are_a_chain, rests_on_disk};

@@ -33,4 +33,5 @@ returns-in-Err c =
       device = told.device;
       any_moment = told.any_moment tt;
       only_reads = λ reads. told.only_reads reads tt;
+      size = told.size.1;
     }
