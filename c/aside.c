@@ -196,14 +196,27 @@ int ndbm_aside_open(struct aside *it, struct served *served, const struct asked 
     return fault;
 }
 
-/* Gives the new file the name of the old one: 0, or the number of errno. From here on its lock lets others read, since it is read under its
- * name at once. */
+/* The old file gets a new time, by which programs that have it open and look at that open its name again. One that can't be had is none. */
+static void tell_readers(const struct aside *it) {
+    int before = errno;
+    if (futimens(it->old, NULL)) errno = before;
+}
+
+int ndbm_aside_named(const struct aside *it) {
+    return it->old;
+}
+
+/* Gives the new file the name of the old one, and its owner, group and mode, which the program may have changed by dbm_pagfno: 0, or the
+ * number of errno. From here on its lock lets others read, since it is read under its name at once. */
 static int put(const struct aside *it, int fd) {
+    struct stat old;
+    if (fstat(it->old, &old) || own_as(fd, &old)) return ndbm_system_number();
     int error = ndbm_bytes_sync_all(fd);
     if (error) return error;
     if (ndbm_lock_at_once(fd, false)) return ndbm_system_number();
     if (!is_under(it, fd, it->beside)) return EWOULDBLOCK;
     if (renameat(it->folder, it->beside, it->folder, it->name)) return ndbm_system_number();
+    tell_readers(it);
     return ndbm_bytes_sync_all(it->folder);
 }
 

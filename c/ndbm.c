@@ -282,8 +282,10 @@ int dbm_clearerr(DBM *db) {
     return is_own(db) ? ndbm_served_clearerr(&db->served) : misuse();
 }
 
+/* It is that of the file that has the name, also where another one is built beside it: programs compare the two. */
 int dbm_pagfno(DBM *db) {
-    return is_own(db) ? db->served.fd : misuse();
+    if (!is_own(db)) return misuse();
+    return db->aside.is_under_way ? ndbm_aside_named(&db->aside) : db->served.fd;
 }
 
 /* Where there is no FILE.dir, it is the file's descriptor of a file that the library doesn't lock. */

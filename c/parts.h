@@ -432,6 +432,8 @@ int ndbm_aside_open(struct aside *, struct served *, const struct asked *, struc
 /* Closes the database and its descriptor, and gives its file the name of the old one, which stays where anything fails. errno says that,
  * and else is as it was. */
 void ndbm_aside_close(struct aside *, struct served *);
+/* the descriptor of the old file, which has the name up to the closing */
+int ndbm_aside_named(const struct aside *);
 /* Gives back what a child has of one. */
 void ndbm_aside_leave(struct aside *);
 

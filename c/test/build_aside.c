@@ -53,17 +53,21 @@ static bool file_has(const char *file, bool (*has)(DBM *)) {
     return it;
 }
 
-/* readers go on with the old pairs, and find the new ones where they open the file again */
+/* readers go on with the old pairs, of a file that has a new time then, and find the new ones where they open the file again */
 static void readers(void) {
+    static const struct timespec past[2] = {{1000000000, 0}, {1000000000, 0}};
+    struct stat it;
     make_old("t");
     DBM *reader = dbmx_open("t", O_RDONLY, 0, &at_once, NULL);
     DBM *db = NULL;
     WORKS((db = build_or_end("t", O_RDWR | O_TRUNC)) != NULL);
-    CHECK(is_open_file(dbm_pagfno(db), "t.db.new") && !is_open_file(dbm_pagfno(db), "t.db"));
+    CHECK(is_open_file(dbm_pagfno(db), "t.db") && is_there("t.db.new"));
     CHECK(!dbm_firstkey(db).dptr && pairs_of(db) == 0 && file_has("t", has_old));
     fill(db, NEW, 'n');
     CHECK(has_new(db) && has_old(reader) && file_has("t", has_old));
+    CHECK(!futimens(dbm_pagfno(reader), past) && !fstat(dbm_pagfno(reader), &it) && it.st_nlink == 1 && it.st_mtime == past[1].tv_sec);
     WORKS((dbm_close(db), true));
+    CHECK(!fstat(dbm_pagfno(reader), &it) && it.st_nlink == 0 && it.st_mtime > past[1].tv_sec);
     CHECK(has_old(reader) && file_has("t", has_new) && !is_there("t.db.new"));
     dbm_close(reader);
 }
@@ -136,6 +140,23 @@ static void likeness(void) {
     CHECK(db && dbmx_version(db) == 1);
     dbm_close(db);
     CHECK(has_head("kind.db", "DBMREDO1") && pairs_in("kind") == 0);
+}
+
+/* What a program gives the file of dbm_pagfno, or somebody gives the old file by its name, the new file has. */
+static void given(void) {
+    struct stat it;
+    make_old("t");
+    DBM *db = build_or_end("t", O_RDWR | O_TRUNC);
+    bool is_given = geteuid() == 0 && !fchown(dbm_pagfno(db), NOBODY, NOBODY);
+    CHECK(!fchmod(dbm_pagfno(db), 0600) && fcntl(dbm_pagfno(db), F_GETFD) == FD_CLOEXEC && dbm_pagfno(db) > 2);
+    fill(db, NEW, 'n');
+    dbm_close(db);
+    CHECK(!stat("t.db", &it) && (it.st_mode & 07777) == 0600 && (!is_given || (it.st_uid == NOBODY && it.st_gid == NOBODY)));
+    CHECK(file_has("t", has_new));
+    db = build_or_end("t", O_RDWR | O_TRUNC);
+    CHECK(!chmod("t.db", 0644));
+    dbm_close(db);
+    CHECK(!stat("t.db", &it) && (it.st_mode & 07777) == 0644 && pairs_in("t") == 0);
 }
 
 /* The build is refused so, and leaves the old pairs, and what stands beside them. */
@@ -293,7 +314,7 @@ static void by_environment(void) {
     make_old("t");
     setenv("KUMQUATFEN_BUILD", "1", 1);
     DBM *db = open_or_end("t", O_RDWR | O_CREAT | O_TRUNC);
-    CHECK(is_open_file(dbm_pagfno(db), "t.db.new") && file_has("t", has_old));
+    CHECK(is_open_file(dbm_pagfno(db), "t.db") && is_there("t.db.new") && file_has("t", has_old));
     dbm_close(db);
     unsetenv("KUMQUATFEN_BUILD");
     CHECK(pairs_in("t") == 0);
@@ -310,6 +331,7 @@ int main(void) {
     readers();
     writers();
     likeness();
+    given();
     what_is_left();
     others();
     places();

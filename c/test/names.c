@@ -110,14 +110,15 @@ static void as_makemap(const char *pag, const char *dir) {
     dbm_close(db);
 }
 
-/* A build beside FILE.pag leaves FILE.dir, and a lock of it, as they are. */
+/* A build beside FILE.pag leaves FILE.dir, and a lock of it, as they are, and the descriptors are those of both files, by which makemap goes
+ * on. */
 static void built(void) {
     static const dbmx_how building = {.options = DBMX_BUILD};
     struct stat before, behind;
     CHECK(!stat("map.dir", &before));
     DBM *db = dbmx_open("map", O_RDWR | O_CREAT | O_TRUNC, 0644, &building, NULL);
-    CHECK(db && !flock(dbm_dirfno(db), LOCK_EX | LOCK_NB) && is_file(dbm_pagfno(db), "map.pag.new") && is_file(dbm_dirfno(db), "map.dir"));
-    CHECK(dbm_store(db, of("new"), of("3"), DBM_INSERT) == 0);
+    CHECK(db && !flock(dbm_dirfno(db), LOCK_EX | LOCK_NB) && is_file(dbm_pagfno(db), "map.pag") && is_file(dbm_dirfno(db), "map.dir"));
+    CHECK(is_there("map.pag.new") && dbm_store(db, of("new"), of("3"), DBM_INSERT) == 0);
     dbm_close(db);
     CHECK(!stat("map.dir", &behind) && before.st_ino == behind.st_ino && !is_there("map.pag.new"));
     CHECK((db = dbm_open("map", O_RDONLY, 0)) != NULL && is(dbm_fetch(db, of("new")), "3") && !dbm_fetch(db, of("key")).dptr);
