@@ -1,6 +1,8 @@
 /* Stores of a database that is built: all answers are those of the map that has all of them, what is refused is told by its own call, and
  * a child that is killed at some moment leaves the first of its pairs. */
 #include <signal.h>
+#include <stdatomic.h>
+#include <sys/mman.h>
 #include <sys/resource.h>
 #include <time.h>
 
@@ -249,38 +251,47 @@ static uint32_t first_pairs(const char *file) {
     return pairs;
 }
 
+/* how many pairs a child has stored so far, in memory that it shares with its parent */
+static _Atomic uint32_t *stored;
+
 static void build_on(void) {
     DBM *db = build_or_end("killed", O_RDWR | O_CREAT);
     for (uint32_t i = 0; i < KILLED_PAIRS; i++) {
         CHECK(put_filled(db, i, 500 + i % 700, (int)(i % 251), i % 3 ? DBM_INSERT : DBM_REPLACE) == 0);
+        *stored = i + 1;
     }
     dbm_close(db);
 }
 
-/* how many pairs a build leaves that is killed behind so many microseconds */
-static uint32_t killed_behind(long microseconds) {
+static void rest(long microseconds) {
+    nanosleep(&(struct timespec){0, microseconds * 1000}, NULL);
+}
+
+/* How many pairs a build leaves that is killed at some moment behind its store of so many. */
+static uint32_t killed_behind(uint32_t pairs) {
     int status = 0;
+    pid_t ended = 0;
     unlink("killed.db");
+    *stored = 0;
     pid_t child = fork();
     if (!child) {
         build_on();
         _exit(bad);
     }
-    nanosleep(&(struct timespec){microseconds / 1000000, microseconds % 1000000 * 1000}, NULL);
+    while (*stored < pairs && !(ended = waitpid(child, &status, WNOHANG))) rest(50);
+    rest((long)drawn(2000));
     kill(child, SIGKILL);
-    CHECK(waitpid(child, &status, 0) == child && (status == 0 || WIFSIGNALED(status)));
+    CHECK((ended == child || waitpid(child, &status, 0) == child) && (status == 0 || WIFSIGNALED(status)));
     return first_pairs("killed");
 }
 
-/* The longest time before a kill follows how many pairs are left. */
 static void kills(void) {
-    long most = 100000;
     int between = 0;
+    stored = mmap(NULL, sizeof *stored, PROT_READ | PROT_WRITE, MAP_SHARED | MAP_ANONYMOUS, -1, 0);
+    if (!CHECK(stored != MAP_FAILED)) return;
     for (int round = 0; round < ROUNDS; round++) {
-        uint32_t pairs = killed_behind(500 + (long)drawn((uint32_t)most));
+        uint32_t pairs = killed_behind(drawn(KILLED_PAIRS));
         between += pairs > 0 && pairs < KILLED_PAIRS;
-        if (!pairs && most < 1000000) most += most / 4;
-        if (pairs == KILLED_PAIRS) most -= most / 4;
     }
     if (!CHECK(between >= ROUNDS / 5)) printf("only %d builds were killed within their stores\n", between);
 }
